@@ -1,0 +1,6 @@
+pub mod TestLaws
+pub mod NumberLaws
+pub mod OctetLaws
+pub mod TwosLaws
+pub mod LayoutLaws
+mod SignedLaws

@@ -1,0 +1,99 @@
+-- A layout is data: a list of fields, the first at the lowest bits of a word. Split and join go by any layout.
+use mathlib.Core.Bool.{Bool, true, false, not}
+use mathlib.Core.List.{List, [], _∷_}
+use Prim.Native.Nat.{ℕ, _+_, _*_, _/_, _^_}
+use lib.Dec.{eqb, ltb}
+use lib.IntN.{ℤ}
+use lib.Signed.{mag}
+use Rattle.bits.specs.Tests.{pick, both}
+use Rattle.bits.specs.Numbers.{fieldOf}
+use Rattle.bits.specs.Twos.{signedOf, unsignedOf}
+
+pub data Field : Type 0 where
+  -- this many bits that always are this number; spare bits are `fixed k 0`
+  fixed : ℕ → ℕ → Field
+  -- any number of this many bits
+  number : ℕ → Field
+  -- a number of this many bits that is none of these codes
+  code : ℕ → List ℕ → Field
+  -- one bit, as yes or no
+  flag : Field
+  -- two's complement: a sign bit above this many bits
+  signed : ℕ → Field
+
+abbrev pub widthOf : Field → ℕ
+widthOf (fixed k c) = k
+widthOf (number k) = k
+widthOf (code k unused) = k
+widthOf flag = 1
+widthOf (signed k) = k + 1
+
+-- what stands in a field, and in each field of a layout
+abbrev pub Value : Field → Type 0
+Value (fixed k c) = Unit {0}
+Value (number k) = ℕ
+Value (code k unused) = ℕ
+Value flag = Bool
+Value (signed k) = ℤ
+
+abbrev pub Values : List Field → Type 0
+Values [] = Unit {0}
+Values (f ∷ fs) = Value f × Values fs
+
+abbrev pub bit : Bool → ℕ
+bit true = 1
+bit false = 0
+
+-- n is none of the codes
+abbrev pub noneOf : List ℕ → ℕ → Bool
+noneOf [] n = true
+noneOf (x ∷ xs) n = both (not (eqb x n)) (noneOf xs n)
+
+-- the value of a field's bits, and the bits of a value
+abbrev pub readAs : (f : Field) → ℕ → Value f
+readAs (fixed k c) n = tt
+readAs (number k) n = n
+readAs (code k unused) n = n
+readAs flag n = eqb n 1
+readAs (signed k) n = signedOf (2 ^ k) n
+
+abbrev pub writeAs : (f : Field) → Value f → ℕ
+writeAs (fixed k c) v = c
+writeAs (number k) v = v
+writeAs (code k unused) v = v
+writeAs flag v = bit v
+writeAs (signed k) v = unsignedOf (2 ^ k) v
+
+-- the bits n, which are below 2 ^ widthOf f, may stand in the field
+abbrev pub allows : Field → ℕ → Bool
+allows (fixed k c) n = eqb n c
+allows (number k) n = true
+allows (code k unused) n = noneOf unused n
+allows flag n = true
+allows (signed k) n = true
+
+-- the value, if its bits are not too many, may stand in the field
+abbrev pub takes : (f : Field) → Value f → Bool
+takes (fixed k c) v = true
+takes (number k) v = true
+takes (code k unused) v = noneOf unused v
+takes flag v = true
+takes (signed k) v = ltb (mag v) (2 ^ k)
+
+-- the bits of a word from weight 2 ^ at on are as the layout has them, with none above
+abbrev pub allowed : ℕ → List Field → ℕ → Bool
+allowed at [] word = eqb (word / 2 ^ at) 0
+allowed at (f ∷ fs) word = both (allows f (fieldOf word at (widthOf f))) (allowed (at + widthOf f) fs word)
+
+-- the values fit their fields
+abbrev pub fits : (fs : List Field) → Values fs → Bool
+fits [] vs = true
+fits (f ∷ fs) vs = both (ltb (writeAs f (vs .0)) (2 ^ widthOf f)) (both (takes f (vs .0)) (fits fs (vs .1)))
+
+abbrev pub split : ℕ → (fs : List Field) → ℕ → Values fs
+split at [] word = tt
+split at (f ∷ fs) word = (readAs f (fieldOf word at (widthOf f)), split (at + widthOf f) fs word)
+
+abbrev pub join : ℕ → (fs : List Field) → Values fs → ℕ
+join at [] vs = 0
+join at (f ∷ fs) vs = writeAs f (vs .0) * 2 ^ at + join (at + widthOf f) fs (vs .1)

@@ -1,0 +1,5 @@
+pub mod Tests
+pub mod Numbers
+pub mod Octets
+pub mod Twos
+pub mod Layout
