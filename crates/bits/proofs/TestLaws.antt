@@ -75,8 +75,8 @@ unfolding every
 every-fails f zero k h e = absurd (not-suc-le-zero h)
 every-fails f (suc n) k h e =
     let go : (k ≡ n) ⊎ (k < n) → both (every f n) (f n) ≡ false =
-        ⊎-elim (λ q. ap (λ (m : ℕ). both (every f n) (f m)) (sym q) ∙ ap (both (every f n)) e ∙ both-false (every f n))
-        (λ l. ap (λ (b : Bool). both b (f n)) (every-fails f n k l e)) in
+    ⊎-elim (λ q. ap (λ (m : ℕ). both (every f n) (f m)) (sym q) ∙ ap (both (every f n)) e ∙ both-false (every f n))
+    (λ l. ap (λ (b : Bool). both b (f n)) (every-fails f n k l e)) in
     go (eq-or-lt-of-le (le-of-suc-le-suc h))
 
 pub every-all : (f : ℕ → Bool) (n : ℕ) → ((k : ℕ) → k < n → f k ≡ true) → every f n ≡ true

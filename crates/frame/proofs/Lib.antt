@@ -1,1 +1,4 @@
+pub mod FrameLaws
+pub mod WordLaws
+mod PackingLaws
 pub mod Examples

@@ -129,7 +129,7 @@ fn data_octet(word: u64, g: usize) -> u8
 // The seven octets of a message, from octet `at` of the image on.
 fn put_message(image: &mut [u8], at: usize, word: u64)
     requires { ⌜ (at + 7 ≤ 16) × (length (now image) ≡ 16) ⌝ }
-    ensures { λ r. ⌜ now (image .exit) ≡ written (now (image .entry)) at (dataOctet word) 7 ⌝ }
+    ensures { λ r. ⌜ (now (image .exit) ≡ written (now (image .entry)) at (dataOctet word) 7) × (length (now (image .exit)) ≡ 16) ⌝ }
 {
     let mut g: usize = 0;
     while g < 7 {

@@ -1,0 +1,93 @@
+-- Laws of frames. Assumes nothing.
+use mathlib.Core.Path.{_≡_, refl, sym, ap, ap₂, _∙_}
+use mathlib.Core.Bool.{Bool, true, false}
+use mathlib.Core.List.{List}
+use Prim.Native.Nat.{ℕ, _+_, _*_, _%_, _≤_, _<_}
+use native.Mathlib.Nat.{zero-add}
+use native.Mathlib.Omega.{arith}
+use borrow.Author.Tests.{eqb-true, ne-eqb}
+use lib.Count.{ones}
+use lib.Dec.{eqb}
+use lib.ListN.{length}
+use Rattle.bits.specs.Tests.{pick, both, every}
+use Rattle.bits.specs.Numbers.{numOf}
+use Rattle.bits.specs.Octets.{bitAt}
+use Rattle.refusal.specs.Refusals.{badLength}
+use Rattle.frame.specs.Frame.{startGood, marksGood, checksGood, columnOf, goodFrame, frameVerdict, verdictOf, frameAt}
+use Rattle.bits.proofs.TestLaws.{both-true, every-at, every-ext}
+use Rattle.bits.proofs.NumberLaws.{num-ones, sum-ext}
+use Rattle.bits.proofs.OctetLaws.{bit-lt}
+
+-- the frame at position 0 is that of the image
+pub frame-0 : (s : List ℕ) → frameAt s 0 ≡ bitAt s
+frame-0 s = λ i n. bitAt s (zero-add n i)
+
+-- the ones of a gathered column are the column's sum
+pub column-ones : (s : List ℕ) (p j : ℕ) → ones (numOf (λ g. frameAt s p (8 * g + 9 + j)) 15) ≡ columnOf (frameAt s p) j
+column-ones s p j = num-ones (λ g. frameAt s p (8 * g + 9 + j)) 15 (λ g _. bit-lt s (p + (8 * g + 9 + j)))
+
+-- ---- the verdict by its three tests
+
+pub by-tests : (b : ℕ → ℕ) {s m k : Bool} → startGood b ≡ s → marksGood b ≡ m → checksGood b ≡ k
+    → frameVerdict b ≡ pick s (pick m (pick k 0 5) 4) 3
+unfolding frameVerdict
+by-tests b es em ek = λ i. pick (es i) (pick (em i) (pick (ek i) 0 5) 4) 3
+
+verdict-of : (s m k : Bool) → eqb (pick s (pick m (pick k 0 5) 4) 3) 0 ≡ both s (both m k)
+verdict-of true true true = refl
+verdict-of true true false = refl
+verdict-of true false k = refl
+verdict-of false m k = refl
+
+-- success is said of good frames only
+pub verdict-good : (b : ℕ → ℕ) → eqb (frameVerdict b) 0 ≡ goodFrame b
+unfolding frameVerdict goodFrame
+verdict-good b = verdict-of (startGood b) (marksGood b) (checksGood b)
+
+-- an image of another length, and one of sixteen octets
+pub verdict-length : (image : List ℕ) → (length image ≡ 16 → ⊥) → verdictOf image ≡ badLength
+unfolding verdictOf
+verdict-length image h = rw (ne-eqb (length image) 16 h)
+
+pub verdict-image : (image : List ℕ) → length image ≡ 16 → verdictOf image ≡ frameVerdict (bitAt image)
+unfolding verdictOf
+verdict-image image h = rw h
+
+-- ---- frames with the same 128 bits are alike
+
+module _ (b c : ℕ → ℕ) (same : (n : ℕ) → 1 ≤ n → n ≤ 128 → b n ≡ c n) where
+  start-ext : startGood b ≡ startGood c
+  start-ext = every-ext _ _ 8 (λ i l. ap (λ (x : ℕ). eqb x 0) (same (i + 1) (omega arith) (omega arith)))
+
+  marks-ext : marksGood b ≡ marksGood c
+  marks-ext =
+      ap₂ both (every-ext _ _ 15 (λ g l. ap (λ (x : ℕ). eqb x 1) (same (8 * g + 9) (omega arith) (omega arith))))
+      (ap (λ (x : ℕ). eqb x 1) (same 128 (omega arith) (omega arith)))
+
+  checks-ext : checksGood b ≡ checksGood c
+  checks-ext =
+      every-ext _ _ 6
+      (λ i l. ap (λ (x : ℕ). eqb (x % 2) 1) (sum-ext _ _ 15 (λ g k. same (8 * g + 9 + (i + 1)) (omega arith) (omega arith))))
+
+  pub good-ext : goodFrame b ≡ goodFrame c
+  unfolding goodFrame
+  good-ext = λ i. both (start-ext i) (both (marks-ext i) (checks-ext i))
+
+-- ---- what a good frame says of single bits
+
+module _ (b : ℕ → ℕ) (good : goodFrame b ≡ true) where
+  parts : (startGood b ≡ true) × (marksGood b ≡ true) × (checksGood b ≡ true)
+  unfolding goodFrame
+  parts = let p = both-true good in let q = both-true (p .1) in (p .0, q .0, q .1)
+
+  pub start-zero : (n : ℕ) → n < 8 → b (n + 1) ≡ 0
+  start-zero n h = eqb-true _ _ (every-at _ 8 (parts .0) n h)
+
+  pub mark-one : (g : ℕ) → g < 15 → b (8 * g + 9) ≡ 1
+  mark-one g h = eqb-true _ _ (every-at _ 15 (both-true (parts .1) .0) g h)
+
+  pub final-one : b 128 ≡ 1
+  final-one = eqb-true _ _ (both-true {a = every (λ g. eqb (b (8 * g + 9)) 1) 15} (parts .1) .1)
+
+  pub column-odd : (i : ℕ) → i < 6 → columnOf b (i + 1) % 2 ≡ 1
+  column-odd i h = eqb-true _ _ (every-at _ 6 (parts .2) i h)
