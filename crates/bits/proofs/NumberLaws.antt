@@ -106,6 +106,13 @@ getD-tab f zero i h = absurd (not-suc-le-zero h)
 getD-tab f (suc n) zero h = refl
 getD-tab f (suc n) (suc i) h = getD-tab (λ k. f (suc k)) n i (le-of-suc-le-suc h)
 
+-- a bound of all f i holds of each element, also past the end
+pub tab-lt : (f : ℕ → ℕ) (m : ℕ) → ((i : ℕ) → f i < m) → 0 < m → (n k : ℕ) → getD (tab f n) k 0 < m
+unfolding tab
+tab-lt f m h z zero k = z
+tab-lt f m h z (suc n) zero = h 0
+tab-lt f m h z (suc n) (suc k) = tab-lt (λ i. f (suc i)) m (λ i. h (suc i)) z n k
+
 pub length-tab : (f : ℕ → ℕ) (n : ℕ) → length (tab f n) ≡ n
 unfolding tab
 length-tab f zero = refl

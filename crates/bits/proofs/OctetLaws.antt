@@ -36,7 +36,7 @@ bit-octets count b bits n h₁ h₂ =
     ∙ ap b e
 
 -- the octet of an octet's bits
-octet-back : (s : List ℕ) (o : ℕ) → getD s o 0 < 256 → octetOf (bitAt s) o ≡ getD s o 0
+pub octet-back : (s : List ℕ) (o : ℕ) → getD s o 0 < 256 → octetOf (bitAt s) o ≡ getD s o 0
 octet-back s o h =
     num-ext _ (λ i. getD s o 0 / 2 ^ i % 2) 8
     (λ i l.

@@ -2,21 +2,21 @@
 use mathlib.Core.Path.{_≡_, refl, sym, ap, ap₂, _∙_}
 use mathlib.Core.Bool.{Bool, true, false}
 use mathlib.Core.List.{List}
-use Prim.Native.Nat.{ℕ, _+_, _*_, _%_, _≤_, _<_}
+use Prim.Native.Nat.{ℕ, _+_, _-_, _*_, _/_, _%_, _≤_, _<_}
 use native.Mathlib.Nat.{zero-add}
 use native.Mathlib.Omega.{arith}
 use borrow.Author.Tests.{eqb-true, ne-eqb}
 use lib.Count.{ones}
 use lib.Dec.{eqb}
-use lib.ListN.{length}
+use lib.ListN.{length, getD}
 use Rattle.bits.specs.Tests.{pick, both, every}
 use Rattle.bits.specs.Numbers.{numOf}
 use Rattle.bits.specs.Octets.{bitAt}
 use Rattle.refusal.specs.Refusals.{badLength}
 use Rattle.frame.specs.Frame.{startGood, marksGood, checksGood, columnOf, goodFrame, frameVerdict, verdictOf, frameAt}
-use Rattle.bits.proofs.TestLaws.{both-true, every-at, every-ext}
-use Rattle.bits.proofs.NumberLaws.{num-ones, sum-ext}
-use Rattle.bits.proofs.OctetLaws.{bit-lt}
+use Rattle.bits.proofs.TestLaws.{by-lt, both-true, every-at, every-ext}
+use Rattle.bits.proofs.NumberLaws.{num-ext, num-ones, sum-ext}
+use Rattle.bits.proofs.OctetLaws.{bit-lt, octet-back}
 
 -- the frame at position 0 is that of the image
 pub frame-0 : (s : List ℕ) → frameAt s 0 ≡ bitAt s
@@ -91,3 +91,31 @@ module _ (b : ℕ → ℕ) (good : goodFrame b ≡ true) where
 
   pub column-odd : (i : ℕ) → i < 6 → columnOf b (i + 1) % 2 ≡ 1
   column-odd i h = eqb-true _ _ (every-at _ 6 (parts .2) i h)
+
+-- the first octet of a good image is 0
+pub start-octet : (s : List ℕ) → goodFrame (bitAt s) ≡ true → getD s 0 0 < 256 → getD s 0 0 ≡ 0
+unfolding numOf
+start-octet s good h =
+    sym (octet-back s 0 h)
+    ∙ num-ext _ (λ i. 0) 8 (λ i l. let e : 8 * 0 + 8 - i ≡ 7 - i + 1 = omega arith in ap (bitAt s) e ∙ start-zero (bitAt s) good (7 - i) (omega arith))
+
+-- ---- two good frames in one run of bits share no bit
+
+module _ (c : ℕ → ℕ) (p q : ℕ) (first : goodFrame (λ n. c (p + n)) ≡ true) (second : goodFrame (λ n. c (q + n)) ≡ true) where
+  -- a one of the first frame does not lie in the second's start group
+  never : (m : ℕ) → c (p + m) ≡ 1 → q < p + m → p + m ≤ q + 8 → ⊥
+  never m one a b =
+      let n = p + m - q - 1 in
+      let e : p + m ≡ q + (n + 1) = omega arith in
+      omega (arith, one, ap c e, start-zero (λ n. c (q + n)) second n (omega arith))
+
+  pub apart : p < q → p + 128 ≤ q
+  apart lt =
+      by-lt q (p + 128)
+      (λ near.
+      by-lt q (p + 120)
+      (λ mark.
+      let g = (q - p + 7) / 8 - 1 in
+      absurd (never (8 * g + 9) (mark-one (λ n. c (p + n)) first g (omega arith)) (omega arith) (omega arith)))
+      (λ final. absurd (never 128 (final-one (λ n. c (p + n)) first) (omega arith) (omega arith))))
+      (λ far. far)

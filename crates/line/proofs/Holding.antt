@@ -1,0 +1,144 @@
+-- What a receiver holds after a run of levels, and what it answers. Assumes nothing.
+use mathlib.Core.Path.{_≡_, refl, sym, ap, ap₂, _∙_}
+use mathlib.Core.Bool.{Bool, true, false}
+use mathlib.Core.List.{List, [], _∷_, _++_, append-assoc, append-nil}
+use Prim.Native.Nat.{ℕ, zero, suc, _+_, _-_, _*_, _/_, _%_, _^_, _≤_, _<_}
+use native.Mathlib.Nat.{mod-lt}
+use native.Mathlib.Omega.{arith}
+use borrow.Author.Tests.{le-leb, lt-leb, leb-true, ltb-false, eqb-true}
+use lib.Dec.{leb, eqb, lit<}
+use lib.ListN.{length, getD}
+use lib.Pow.{shr-shr}
+use Rattle.bits.specs.Tests.{pick, both, every}
+use Rattle.bits.specs.Octets.{bitAt, octetsOf}
+use Rattle.refusal.specs.Refusals.{numbered, success}
+use Rattle.frame.specs.Frame.{goodFrame}
+use Rattle.line.specs.Levels.{refused, differ, kept, bitsAfter, bitsOf, decoded}
+use Rattle.line.specs.Machine.{pushed, windowImage, noImage, freshOf, accepted, holdsFrame, answerOf, refusedBy, heardOf, runFrom, run}
+use Rattle.line.specs.Hearing.{lastFrame, endsGood, toldOf, told}
+use Rattle.line.specs.declared.Window.{Window}
+use Rattle.line.specs.declared.Receiver.{Receiver}
+use Rattle.line.specs.declared.Heard.{Heard}
+use Rattle.bits.proofs.TestLaws.{by-lt, clash, rule-at}
+use Rattle.bits.proofs.OctetLaws.{octets-bits, octets-ext}
+use Rattle.frame.proofs.FrameLaws.{good-ext, start-zero}
+use Rattle.line.proofs.WindowLaws.{Bits, none, more, valFrom, val-snoc, val-div, val-bit, Low, push-low, window-octet, window-bit}
+use Rattle.line.proofs.LevelLaws.{lastOf, last-snoc, differ-le, bits-append, bits-bits, kept-snoc}
+
+-- the ones of an idle line
+abbrev idle : ℕ
+idle = 2 ^ 128 - 1
+
+abbrev some : List ℕ → Bool
+some [] = false
+some (k ∷ ks) = true
+
+-- what a receiver holds that has accepted the levels ks
+record Holds (s : Receiver) (ks : List ℕ) : Type 0 where
+  window : Low (s .window) (valFrom idle (bitsOf ks))
+  last : s .last ≡ lastOf 0 ks
+  started : s .started ≡ some ks
+
+fresh-holds : Holds freshOf []
+fresh-holds = record { window = record { older = refl; newer = refl }; last = refl; started = refl }
+
+accept-holds : (s : Receiver) (ks : List ℕ) (l : ℕ) → Holds s ks → Holds (accepted s l) (ks ++ l ∷ [])
+accept-holds s [] l h = record { window = rw (h .started) (h .window); last = refl; started = refl }
+accept-holds s (k ∷ r) l h =
+    let e : bitsAfter k (r ++ l ∷ []) ≡ bitsAfter k r ++ differ (lastOf k r) l ∷ [] = bits-append k r (l ∷ []) in
+    record {
+      window =
+          rw (h .started, e, val-snoc idle (bitsAfter k r) (differ (lastOf k r) l), ← h .last)
+          (push-low _ _ _ (differ-le (s .last) l) (h .window));
+      last = sym (last-snoc k r l);
+      started = refl;
+    }
+
+-- ---- the window of a run of bits
+
+bits-of : (ks : List ℕ) → Bits (bitsOf ks)
+bits-of [] = none
+bits-of (k ∷ r) = bits-bits k r
+
+module _ (w : Window) (h : List ℕ) (low : Low w (valFrom idle h)) (bits : Bits h) where
+  -- the window's image holds the last 128 bits, where there are as many
+  image-bit : 128 ≤ length h → (n : ℕ) → 1 ≤ n → n ≤ 128 → bitAt (windowImage w) n ≡ lastFrame h n
+  image-bit enough n a b =
+      let e : length h - 1 - (128 - n) ≡ length h - 128 + (n - 1) = omega arith in
+      window-bit w (valFrom idle h) low n a b ∙ val-bit idle bits (128 - n) (omega arith) ∙ ap (λ (i : ℕ). getD h i 0) e
+
+  -- else its first bit is a one of the idle line
+  ones : (k : ℕ) → k < 128 → idle / 2 ^ k % 2 ≡ 1
+  unfolding every
+  ones = rule-at (λ k. idle / 2 ^ k % 2) (λ k. 1) 128 refl
+
+  first-one : length h < 128 → bitAt (windowImage w) 1 ≡ 1
+  first-one few =
+      let k = 127 - length h in
+      let e : 127 ≡ length h + k = omega arith in
+      window-bit w (valFrom idle h) low 1 (omega arith) (omega arith)
+      ∙ ap (λ (n : ℕ). valFrom idle h / 2 ^ n % 2) e
+      ∙ ap (λ (n : ℕ). n % 2) (sym (shr-shr (valFrom idle h) (length h) k) ∙ ap (λ (n : ℕ). n / 2 ^ k) (val-div idle bits))
+      ∙ ones k (omega arith)
+
+  good-is : goodFrame (bitAt (windowImage w)) ≡ endsGood h
+  unfolding endsGood
+  good-is =
+      by-lt (length h) 128
+      (λ few. not-good few (goodFrame (bitAt (windowImage w))) refl ∙ ap (λ (t : Bool). both t (goodFrame (lastFrame h))) (sym (lt-leb 128 (length h) few)))
+      (λ enough.
+      good-ext _ _ (image-bit enough) ∙ ap (λ (t : Bool). both t (goodFrame (lastFrame h))) (sym (le-leb 128 (length h) enough)))
+    where
+      not-good : length h < 128 → (t : Bool) → goodFrame (bitAt (windowImage w)) ≡ t → t ≡ false
+      not-good few false e = refl
+      not-good few true e = absurd (let z = start-zero (bitAt (windowImage w)) e 0 (lit< tt) in omega (arith, first-one few))
+
+  image-is : endsGood h ≡ true → windowImage w ≡ octetsOf 16 (lastFrame h)
+  unfolding endsGood
+  image-is g =
+      by-lt (length h) 128
+      (λ few. absurd (clash g (ap (λ (t : Bool). both t (goodFrame (lastFrame h))) (lt-leb 128 (length h) few))))
+      (λ enough. sym (octets-bits (windowImage w) 16 refl octet) ∙ octets-ext 16 _ _ (image-bit enough))
+    where
+      octet : (k : ℕ) → getD (windowImage w) k 0 < 256
+      octet k = window-octet w (valFrom idle h) low k
+
+answer-is : (s : Receiver) (ks ls : List ℕ) → Holds s ks → s ≡ run ls → answerOf s ≡ toldOf ls (bitsOf ks)
+unfolding holdsFrame
+answer-is s ks ls h e =
+    go (endsGood (bitsOf ks)) refl
+  where
+    g : goodFrame (bitAt (windowImage (s .window))) ≡ endsGood (bitsOf ks)
+    g = good-is (s .window) (bitsOf ks) (h .window) (bits-of ks)
+
+    go : (t : Bool) → endsGood (bitsOf ks) ≡ t → answerOf s ≡ toldOf ls (bitsOf ks)
+    go true q = rw (g, q, ← e, image-is (s .window) (bitsOf ks) (h .window) (bits-of ks) q)
+    go false q = rw (g, q, ← e)
+
+-- ---- runs
+
+run-snoc : (s : Receiver) (ls : List ℕ) (l : ℕ) → runFrom s (ls ++ l ∷ []) ≡ heardOf (runFrom s ls) l .receiver
+run-snoc s [] l = refl
+run-snoc s (x ∷ ls) l = run-snoc (heardOf s x .receiver) ls l
+
+run-holds : (s : Receiver) (ks ls : List ℕ) → Holds s ks → Holds (runFrom s ls) (ks ++ kept ls)
+run-holds s ks [] h = rw append-nil h
+run-holds s ks (l ∷ ls) h = go (refused l) refl (run-holds s ks ls h) (run-holds (accepted s l) (ks ++ l ∷ []) ls (accept-holds s ks l h))
+  where
+    go : (t : Bool) → refused l ≡ t → Holds (runFrom s ls) (ks ++ kept ls) → Holds (runFrom (accepted s l) ls) ((ks ++ l ∷ []) ++ kept ls)
+        → Holds (runFrom (heardOf s l .receiver) ls) (ks ++ pick t (kept ls) (l ∷ kept ls))
+    go true e a b = rw e a
+    go false e a b = rw e (rw (append-assoc ks (l ∷ []) (kept ls)) at b)
+
+-- after any levels, any level is answered as the decoded bits say
+pub heard-told : (ls : List ℕ) (l : ℕ) → heardOf (run ls) l ≡ told ls l
+heard-told ls l = go (refused l) refl
+  where
+    go : (t : Bool) → refused l ≡ t → heardOf (run ls) l ≡ told ls l
+    go true e = rw e
+    go false e =
+        let h : heardOf (run ls) l ≡ answerOf (accepted (run ls) l) = rw e in
+        let r : accepted (run ls) l ≡ run (ls ++ l ∷ []) = sym (run-snoc freshOf ls l ∙ ap (λ (x : Heard). x .receiver) h) in
+        h
+        ∙ answer-is (accepted (run ls) l) (kept ls ++ l ∷ []) (ls ++ l ∷ []) (accept-holds (run ls) (kept ls) l (run-holds freshOf [] ls fresh-holds)) r
+        ∙ rw (e, kept-snoc ls l (ltb-false 1 l e))

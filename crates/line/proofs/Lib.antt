@@ -1,0 +1,5 @@
+mod WindowLaws
+mod LevelLaws
+mod SendingLaws
+mod Holding
+pub mod Demand3

@@ -1,0 +1,39 @@
+-- DEMAND 3: what a fresh receiver hands over, said of the decoded bits alone.
+use mathlib.Core.Bool.{Bool}
+use mathlib.Core.List.{List, [], _∷_, _++_}
+use Prim.Native.Nat.{ℕ, _+_, _-_}
+use lib.Dec.{leb, ltb}
+use lib.ListN.{length, getD}
+use Rattle.bits.specs.Tests.{pick, both}
+use Rattle.bits.specs.Octets.{octetsOf}
+use Rattle.refusal.specs.Refusals.{numbered, success}
+use Rattle.frame.specs.Frame.{goodFrame}
+use Rattle.line.specs.Levels.{refused, decoded}
+use Rattle.line.specs.Machine.{noImage, run, refusedBy}
+use Rattle.line.specs.declared.Heard.{Heard}
+
+-- the last 128 of a run of bits, as a frame
+abbrev pub lastFrame : List ℕ → ℕ → ℕ
+lastFrame bits n = getD bits (length bits - 128 + (n - 1)) 0
+
+-- there are 128 bits, and the last 128 are a good frame
+unfoldable pub endsGood : List ℕ → Bool
+endsGood bits = both (leb 128 (length bits)) (goodFrame (lastFrame bits))
+
+-- a frame is handed over exactly when the bits end in a good one, and then that one
+abbrev pub toldOf : List ℕ → List ℕ → Heard
+toldOf ls bits =
+    record {
+      receiver = run ls;
+      refusal = numbered success;
+      frame = endsGood bits;
+      image = pick (endsGood bits) (octetsOf 16 (lastFrame bits)) noImage;
+    }
+
+-- the answer to a level after the levels ls; at a level that is neither 0 nor 1 there is no frame
+abbrev pub told : List ℕ → ℕ → Heard
+told ls level = pick (refused level) (refusedBy (run ls)) (toldOf (ls ++ level ∷ []) (decoded (ls ++ level ∷ [])))
+
+-- the wires swapped: 0 for 1 and 1 for 0; what is refused stays
+abbrev pub swap : ℕ → ℕ
+swap level = pick (refused level) level (1 - level)

@@ -1,0 +1,4 @@
+pub mod Levels
+pub mod Machine
+pub mod Hearing
+pub mod Sending

@@ -1,0 +1,72 @@
+-- The receiver as it works: a window of the last 128 bits, one level at a time. Hearing.antt says what it must hand over.
+use mathlib.Core.Bool.{Bool, true, false}
+use mathlib.Core.List.{List, [], _∷_}
+use Prim.Native.Nat.{ℕ, _+_, _-_, _*_, _/_, _%_, _^_}
+use lib.ListN.{replicate}
+use Rattle.bits.specs.Tests.{pick}
+use Rattle.bits.specs.Octets.{bitAt}
+use Rattle.refusal.specs.Refusals.{numbered, success, badLevel}
+use Rattle.frame.specs.Frame.{goodFrame}
+use Rattle.line.specs.Levels.{refused, differ}
+use Rattle.line.specs.declared.Window.{Window}
+use Rattle.line.specs.declared.Receiver.{Receiver}
+use Rattle.line.specs.declared.Heard.{Heard}
+
+-- the window with one bit more, its oldest gone
+abbrev pub pushed : Window → ℕ → Window
+pushed w bit = record { older = w .older % 2 ^ 63 * 2 + w .newer / 2 ^ 63; newer = w .newer % 2 ^ 63 * 2 + bit }
+
+-- the sixteen octets of a window
+abbrev pub windowImage : Window → List ℕ
+windowImage w =
+    w .older / 2 ^ 56 % 256 ∷ w .older / 2 ^ 48 % 256 ∷ w .older / 2 ^ 40 % 256 ∷ w .older / 2 ^ 32 % 256 ∷ w .older / 2 ^ 24 % 256
+    ∷ w .older / 2 ^ 16 % 256 ∷ w .older / 2 ^ 8 % 256 ∷ w .older % 256 ∷ w .newer / 2 ^ 56 % 256 ∷ w .newer / 2 ^ 48 % 256
+    ∷ w .newer / 2 ^ 40 % 256 ∷ w .newer / 2 ^ 32 % 256 ∷ w .newer / 2 ^ 24 % 256 ∷ w .newer / 2 ^ 16 % 256 ∷ w .newer / 2 ^ 8 % 256
+    ∷ w .newer % 256 ∷ []
+
+abbrev pub noImage : List ℕ
+noImage = replicate 16 0
+
+-- as after an idle line (001, Annex A, Appendix 3, paragraph 5): all ones, in which no start group begins
+abbrev pub freshOf : Receiver
+freshOf = record { started = false; last = 0; window = record { older = 2 ^ 64 - 1; newer = 2 ^ 64 - 1 } }
+
+-- the receiver after a level that is 0 or 1; the first gives no bit
+abbrev pub accepted : Receiver → ℕ → Receiver
+accepted s level =
+    record {
+      started = true;
+      last = level;
+      window = pick (s .started) (pushed (s .window) (differ (s .last) level)) (s .window);
+    }
+
+unfoldable pub holdsFrame : Receiver → Bool
+holdsFrame s = goodFrame (bitAt (windowImage (s .window)))
+
+abbrev pub silentOf : Receiver → Heard
+silentOf s = record { receiver = s; refusal = numbered success; frame = false; image = noImage }
+
+-- the answer of a receiver that has taken a level: its window, if that is a good frame
+abbrev pub answerOf : Receiver → Heard
+answerOf s =
+    record {
+      receiver = s;
+      refusal = numbered success;
+      frame = holdsFrame s;
+      image = pick (holdsFrame s) (windowImage (s .window)) noImage;
+    }
+
+-- a refusal hands back the state that it was given
+abbrev pub refusedBy : Receiver → Heard
+refusedBy s = record { receiver = s; refusal = numbered badLevel; frame = false; image = noImage }
+
+abbrev pub heardOf : Receiver → ℕ → Heard
+heardOf s level = pick (refused level) (refusedBy s) (answerOf (accepted s level))
+
+-- a receiver after a run of levels
+abbrev pub runFrom : Receiver → List ℕ → Receiver
+runFrom s [] = s
+runFrom s (l ∷ ls) = runFrom (heardOf s l .receiver) ls
+
+abbrev pub run : List ℕ → Receiver
+run ls = runFrom freshOf ls

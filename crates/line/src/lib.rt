@@ -1,0 +1,204 @@
+// Line levels: a receiver that hears frames, and a sender (001, Annex A, Appendix 3, paragraphs 4 and 5).
+
+ghost use mathlib.Core.Path.{_≡_};
+ghost use Prim.Native.Nat.{_≤_};
+ghost use lib.ListN.{length};
+ghost use Rattle.refusal.specs.Refusals.{numbered};
+ghost use Rattle.line.specs.Levels.{differ};
+ghost use Rattle.line.specs.Machine.{pushed, windowImage, freshOf, accepted, silentOf, answerOf, heardOf};
+ghost use Rattle.line.specs.Sending.{next, levelsAfter, imageBits, sendNumber, sendLevels};
+use refusal::Refusal;
+
+// The last 128 bits: the oldest weighs most in `older`, the newest least in `newer`.
+pub struct Window {
+    pub older: u64,
+    pub newer: u64,
+}
+
+impl Window {
+    // One bit more; the oldest goes.
+    fn push(self, bit: u8) -> Window
+        requires { ⌜ bit ≤ 1 ⌝ }
+        ensures { λ r. ⌜ r ≡ pushed self bit ⌝ }
+    {
+        Window {
+            older: (self.older << 1) | (self.newer >> 63),
+            newer: (self.newer << 1) | (bit as u64),
+        }
+    }
+
+    // The sixteen octets.
+    fn image(self) -> [u8; 16]
+        ensures { λ r. ⌜ r ≡ windowImage self ⌝ }
+    {
+        let a = self.older;
+        let b = self.newer;
+        [
+            ((a >> 56) % 256) as u8,
+            ((a >> 48) % 256) as u8,
+            ((a >> 40) % 256) as u8,
+            ((a >> 32) % 256) as u8,
+            ((a >> 24) % 256) as u8,
+            ((a >> 16) % 256) as u8,
+            ((a >> 8) % 256) as u8,
+            (a % 256) as u8,
+            ((b >> 56) % 256) as u8,
+            ((b >> 48) % 256) as u8,
+            ((b >> 40) % 256) as u8,
+            ((b >> 32) % 256) as u8,
+            ((b >> 24) % 256) as u8,
+            ((b >> 16) % 256) as u8,
+            ((b >> 8) % 256) as u8,
+            (b % 256) as u8,
+        ]
+    }
+}
+
+// A receiver: whether a level has come, the last one, and the window.
+pub struct Receiver {
+    pub started: bool,
+    pub last: u8,
+    pub window: Window,
+}
+
+// What a level is answered: the receiver to go on with, the refusal, and the frame handed over, if any.
+pub struct Heard {
+    pub receiver: Receiver,
+    pub refusal: Refusal,
+    pub frame: bool,
+    pub image: [u8; 16],
+}
+
+// The bit that two levels in turn give.
+fn change(before: u8, level: u8) -> u8
+    ensures { λ r. ⌜ r ≡ differ before level ⌝ }
+{
+    if before == level { 0 } else { 1 }
+}
+
+impl Receiver {
+    // As after an idle line, all ones: no start group reaches back before the first bit.
+    pub fn fresh() -> Receiver
+        ensures { λ r. ⌜ r ≡ freshOf ⌝ }
+    {
+        let window = Window {
+            older: 0xffff_ffff_ffff_ffff,
+            newer: 0xffff_ffff_ffff_ffff,
+        };
+        Receiver {
+            started: false,
+            last: 0,
+            window,
+        }
+    }
+
+    // The receiver with one level more; the first gives no bit.
+    fn accept(self, level: u8) -> Receiver
+        requires { ⌜ level ≤ 1 ⌝ }
+        ensures { λ r. ⌜ r ≡ accepted self level ⌝ }
+    {
+        let window = self.window;
+        if self.started {
+            let longer = window.push(change(self.last, level));
+            return Receiver {
+                started: true,
+                last: level,
+                window: longer,
+            };
+        }
+        Receiver {
+            started: true,
+            last: level,
+            window,
+        }
+    }
+
+    // No frame to hand over: zero octets.
+    fn silent(self) -> Heard
+        ensures { λ r. ⌜ r ≡ silentOf self ⌝ }
+    {
+        Heard {
+            receiver: self,
+            refusal: Refusal::of(refusal::SUCCESS),
+            frame: false,
+            image: [0u8; 16],
+        }
+    }
+
+    // Hands over the window if it is a good frame. The start group is tested before an image is made.
+    fn answer(self) -> Heard
+        ensures { λ r. ⌜ r ≡ answerOf self ⌝ }
+    {
+        let window = self.window;
+        if window.older >> 56 != 0 {
+            return self.silent();
+        }
+        let image = window.image();
+        if frame::verdict(&image).number != refusal::SUCCESS {
+            return self.silent();
+        }
+        Heard {
+            receiver: self,
+            refusal: Refusal::of(refusal::SUCCESS),
+            frame: true,
+            image,
+        }
+    }
+
+    // One level. A level that is neither 0 nor 1 is refused, 1, and counts for nothing.
+    pub fn step(self, level: u8) -> Heard
+        ensures { λ r. ⌜ r ≡ heardOf self level ⌝ }
+    {
+        if 1 < level {
+            return Heard {
+                receiver: self,
+                refusal: Refusal::of(refusal::BAD_LEVEL),
+                frame: false,
+                image: [0u8; 16],
+            };
+        }
+        self.accept(level).answer()
+    }
+}
+
+// The level that tells a bit after a level: a one changes it.
+fn tell(level: u8, bit: u8) -> u8
+    requires { ⌜ level ≤ 1 ⌝ }
+    ensures { λ r. ⌜ (r ≡ next level bit) × (r ≤ 1) ⌝ }
+{
+    if bit == 0 { level } else { 1 - level }
+}
+
+// The 128 levels of an image after a level.
+fn put_levels(image: &[u8], previous: u8, levels: &mut [u8])
+    requires { ⌜ (length (now image) ≡ 16) × (previous ≤ 1) × (length (now levels) ≡ 128) ⌝ }
+    ensures { λ r. ⌜ now (levels .exit) ≡ levelsAfter previous (imageBits (now (image .entry))) ⌝ }
+{
+    let mut level = previous;
+    let mut i = 0;
+    while i < 128 {
+        level = tell(level, bits::bit(image, i + 1));
+        levels[i] = level;
+        i += 1;
+    }
+}
+
+// Sends a good image as 128 levels after the previous level: 2 image, 2 buffer, 1, 3, 4, 5.
+pub fn send(image: &[u8], previous: u8, levels: &mut [u8]) -> Refusal
+    ensures { λ r. ⌜ (r ≡ numbered (sendNumber (now (image .entry)) previous (now (levels .entry)))) × (now (levels .exit) ≡ sendLevels (now (image .entry)) previous (now (levels .entry))) ⌝ }
+{
+    if image.len() != 16 {
+        return Refusal::of(refusal::BAD_LENGTH);
+    }
+    if levels.len() != 128 {
+        return Refusal::of(refusal::BAD_LENGTH);
+    }
+    if 1 < previous {
+        return Refusal::of(refusal::BAD_LEVEL);
+    }
+    let verdict = frame::verdict(image);
+    if verdict.number == refusal::SUCCESS {
+        put_levels(image, previous, levels);
+    }
+    verdict
+}
