@@ -1,1 +1,2 @@
 mod SieveLaws
+pub mod OneAnswer

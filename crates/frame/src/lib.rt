@@ -8,7 +8,7 @@ ghost use Rattle.bits.specs.Numbers.{numOf, written};
 ghost use Rattle.bits.specs.Octets.{bitAt};
 ghost use Rattle.refusal.specs.Refusals.{numbered};
 ghost use Rattle.frame.specs.Frame.{startGood, marksGood, checksGood, frameVerdict, verdictOf, frameAt, Lies};
-ghost use Rattle.frame.specs.Words.{wordOf, imageOf};
+ghost use Rattle.frame.specs.Words.{placeOf, wordOf, imageOf};
 ghost use Rattle.frame.specs.Packing.{dataOctet, checkOctet};
 use refusal::Refusal;
 
@@ -98,6 +98,14 @@ pub fn verdict(image: &[u8]) -> Refusal
     Refusal::of(verdict_at(image, 0))
 }
 
+// The frame bit of bit i of message k.
+fn place(k: usize, i: usize) -> usize
+    requires { ⌜ (1 ≤ k) × (k ≤ 2) × (1 ≤ i) × (i ≤ 49) ⌝ }
+    ensures { λ r. ⌜ r ≡ placeOf k i ⌝ }
+{
+    10 + 56 * (k - 1) + 8 * ((i - 1) / 7) + (i - 1) % 7
+}
+
 // The word of message k, bit by bit.
 pub fn word(image: &[u8], k: usize) -> u64
     requires { ⌜ (1 ≤ k) × (k ≤ 2) × (length (now image) ≡ 16) ⌝ }
@@ -106,7 +114,7 @@ pub fn word(image: &[u8], k: usize) -> u64
     let mut gathered: u64 = 0;
     let mut i: usize = 0;
     while i < 49 {
-        gathered |= (bits::bit(image, 10 + 56 * (k - 1) + 8 * (i / 7) + i % 7) as u64) << i;
+        gathered |= (bits::bit(image, place(k, i + 1)) as u64) << i;
         i += 1;
     }
     gathered

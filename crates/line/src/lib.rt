@@ -134,15 +134,15 @@ impl Receiver {
             return self.silent();
         }
         let image = window.image();
-        if frame::verdict(&image).number != refusal::SUCCESS {
-            return self.silent();
+        if frame::verdict(&image).number == refusal::SUCCESS {
+            return Heard {
+                receiver: self,
+                refusal: Refusal::of(refusal::SUCCESS),
+                frame: true,
+                image,
+            };
         }
-        Heard {
-            receiver: self,
-            refusal: Refusal::of(refusal::SUCCESS),
-            frame: true,
-            image,
-        }
+        self.silent()
     }
 
     // One level. A level that is neither 0 nor 1 is refused, 1, and counts for nothing.

@@ -1,6 +1,6 @@
 -- `frame::word` meets its contract. The loop's invariant: the word holds the bits passed. Assumes nothing.
 use mathlib.Core.Path.{_≡_, sym, ap, _∙_}
-use Prim.Native.Nat.{ℕ, _+_, _-_, _*_, _/_, _%_, _≤_}
+use Prim.Native.Nat.{ℕ, _+_, _-_, _≤_}
 use native.Mathlib.Omega.{arith}
 use borrow.Author.Needs.{needs}
 use Rattle.bits.specs.Numbers.{numOf}
@@ -20,23 +20,11 @@ abbrev μ-loop : tie.MeasureT-loop
 loop-holds : tie.Need-loop-holds Inv-loop μ-loop
 loop-holds c = (search needs, sym (num-none _))
 
-sub-bit : tie.Need-sub-bit Inv-loop μ-loop
-sub-bit c = search needs
+add-place : tie.Need-add-place Inv-loop μ-loop
+add-place c = search needs
 
-mul-bit : tie.Need-mul-bit Inv-loop μ-loop
-mul-bit c = search needs
-
-add-bit : tie.Need-add-bit Inv-loop μ-loop
-add-bit c = search needs
-
-mul-bit-2 : tie.Need-mul-bit-2 Inv-loop μ-loop
-mul-bit-2 c = search needs
-
-add-bit-2 : tie.Need-add-bit-2 Inv-loop μ-loop
-add-bit-2 c = search needs
-
-add-bit-3 : tie.Need-add-bit-3 Inv-loop μ-loop
-add-bit-3 c = search needs
+place-requires : tie.Need-place-requires Inv-loop μ-loop
+place-requires c κs = search needs
 
 bit-requires : tie.Need-bit-requires Inv-loop μ-loop
 bit-requires c κs = search needs
@@ -55,14 +43,13 @@ loop-less c = search needs
 
 loop-again : tie.Need-loop-again Inv-loop μ-loop
 loop-again c =
-    let a = c .before .before .before .before .args in
-    let s = a .image .now in
-    let i = c .before .before .loop .i in
-    let e : i ≡ i + 1 - 1 = omega arith in (
+    let begin = c .before .before .before .before .before in
+    let at-loop = c .before .before .before in
+    let s = begin .args .image .now in
+    let k = begin .args .k in (
       search needs,
-      num-turn (λ m. bitAt s (placeOf (a .k) (m + 1))) 64 i _ (c .bit .result) (search needs) (λ m. bit-lt s _)
-          (c .before .before .loop .inv .1)
-          (c .bit .ensures ∙ ap (λ (n : ℕ). bitAt s (10 + 56 * (a .k - 1) + 8 * (n / 7) + n % 7)) e),
+      num-turn (λ m. bitAt s (placeOf k (m + 1))) 64 (at-loop .loop .i) _ (c .bit .result) (search needs) (λ m. bit-lt s _)
+          (at-loop .loop .inv .1) (c .bit .ensures ∙ ap (bitAt s) (c .before .place .ensures)),
     )
 
 returns : tie.Need-returns Inv-loop μ-loop
@@ -77,12 +64,8 @@ word-spec =
     Inv-loop
     μ-loop
     loop-holds
-    sub-bit
-    mul-bit
-    add-bit
-    mul-bit-2
-    add-bit-2
-    add-bit-3
+    add-place
+    place-requires
     bit-requires
     cast-gathered
     shl-gathered

@@ -58,24 +58,24 @@ slice-aggregate-verdict c = search needs
 verdict-requires : tie.Need-verdict-requires
 verdict-requires c κs = search needs
 
-silent-requires-2 : tie.Need-silent-requires-2
-silent-requires-2 c κs = search needs
+of-requires : tie.Need-of-requires
+of-requires c κs = search needs
 
 returns-2 : tie.Need-returns-2
 returns-2 c =
     let v = c .before .before .before .verdict in
     let i = c .before .before .before .before .before .image in
-    c .silent2 .ensures
-    ∙ silent-is _ (holds-is _ (i .result) false (i .ensures) (ne-eqb _ _ (λ e. c .before .if2 .taken (ap (λ (r : Refusal). r .number) (v .ensures) ∙ e))))
+    handed-is _ _ _ (holds-is _ (i .result) true (i .ensures) (eq-eqb _ _ (sym (ap (λ (r : Refusal). r .number) (v .ensures)) ∙ c .before .if2 .taken))) (c .of .ensures) (i .ensures)
 
-of-requires : tie.Need-of-requires
-of-requires c κs = search needs
+silent-requires-2 : tie.Need-silent-requires-2
+silent-requires-2 c κs = search needs
 
 returns-3 : tie.Need-returns-3
 returns-3 c =
     let v = c .before .before .before .verdict in
     let i = c .before .before .before .before .before .image in
-    handed-is _ _ _ (holds-is _ (i .result) true (i .ensures) (eq-eqb _ _ (sym (ap (λ (r : Refusal). r .number) (v .ensures)) ∙ c .before .if2 .left))) (c .of .ensures) (i .ensures)
+    c .silent2 .ensures
+    ∙ silent-is _ (holds-is _ (i .result) false (i .ensures) (ne-eqb _ _ (λ e. c .before .if2 .left (ap (λ (r : Refusal). r .number) (v .ensures) ∙ e))))
 
 pub answer-spec : {M : Type 1} → statement M
 answer-spec =
@@ -86,7 +86,7 @@ answer-spec =
     image-requires
     slice-aggregate-verdict
     verdict-requires
-    silent-requires-2
-    returns-2
     of-requires
+    returns-2
+    silent-requires-2
     returns-3)
