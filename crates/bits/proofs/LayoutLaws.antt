@@ -2,20 +2,14 @@
 use mathlib.Core.Path.{_≡_, refl, sym, ap, ap₂, subst, _∙_}
 use mathlib.Core.Bool.{Bool, true, false}
 use mathlib.Core.List.{List, [], _∷_}
-use Prim.Native.Nat.{ℕ, zero, suc, _+_, _-_, _*_, _/_, _%_, _^_, _<_, _≤_}
-use native.Mathlib.Nat.{mod-add-div', mod-lt, add-mul-mod-self-right, add-mul-div-right, mod-eq-of-lt, div-eq-of-lt, zero-add, div-one, mul-one, add-mul, mul-assoc, mul-comm, not-suc-le-zero, le-of-suc-le-suc, lt-of-lt-of-le}
+use Prim.Native.Nat.{ℕ, zero, suc, _+_, _-_, _*_, _/_, _%_, _^_, _<_}
+use native.Mathlib.Nat.{mod-add-div', mod-lt, add-mul-mod-self-right, add-mul-div-right, mod-eq-of-lt, div-eq-of-lt, zero-add, div-one, mul-one, add-mul, mul-assoc, mul-comm}
 use native.Mathlib.Omega.{arith}
 use lib.Dec.{T, eqb, ltb, eqb→eq, eqb-refl, lt→ltb, ltb→lt}
-use lib.IntN.{ℤ, pos, negsuc}
-use lib.Signed.{mag}
-use lib.Arith.{comp-comp, comp-ge, comp-lt}
-use borrow.Author.Tests.{lt-ltb, le-ltb, ltb-true, ltb-false}
 use lib.Pow.{pow-pos, pow-add, shr-shr}
-use Rattle.bits.specs.Tests.{pick, both}
-use Rattle.bits.specs.Numbers.{fieldOf}
-use Rattle.bits.specs.Twos.{signedOf, unsignedOf}
-use Rattle.bits.specs.Layout.{Field, fixed, number, code, flag, signed, widthOf, Value, Values, bit, noneOf, readAs, writeAs, allows, takes, allowed, split, fits, join}
-use Rattle.bits.proofs.TestLaws.{both-left, both-right, both-intro, same-test}
+use Rattle.bits.specs.Tests.{both}
+use Rattle.bits.specs.Layout.{Field, fixed, number, code, flag, signed, widthOf, Value, Values, bit, readAs, writeAs, allows, takes, allowed, split, fits, join}
+use Rattle.bits.proofs.TestLaws.{both-left, both-right, both-intro}
 use Rattle.bits.proofs.TwosLaws.{unsigned-signed, signed-range, signed-unsigned}
 
 -- one field
@@ -175,20 +169,3 @@ split-join fs vs t = split-0 fs (join 0 fs vs) ∙ ap (split′ fs) (join-0 fs v
 
 pub allowed-join : (fs : List Field) (vs : Values fs) → T (fits fs vs) → T (allowed 0 fs (join 0 fs vs))
 allowed-join fs vs t = subst T (sym (allowed-0 fs (join 0 fs vs) ∙ ap (allowed′ fs) (join-0 fs vs))) (allowed-join′ fs vs t)
-
--- the first field of what is joined
-pub first-join : (f : Field) (fs : List Field) (vs : Values (f ∷ fs)) → T (fits (f ∷ fs) vs) → join 0 (f ∷ fs) vs % 2 ^ widthOf f ≡ writeAs f (vs .0)
-unfolding join′
-first-join f fs vs t = ap (λ (n : ℕ). n % 2 ^ widthOf f) (join-0 (f ∷ fs) vs) ∙ low (writeAs f (vs .0)) (join′ fs (vs .1)) (widthOf f) (fit-width f fs vs t)
-
--- a layout whose bits are all fixed holds one number
-
-pub all-fixed : (at : ℕ) (fs : List Field) (c w : ℕ) → ((vs : Values fs) → join 0 fs vs ≡ c) → T (allowed 0 fs c) → allowed at fs w ≡ eqb (w / 2 ^ at) c
-all-fixed at fs c w one ok =
-    allowed-at at fs w
-    ∙ same-test (allowed′ fs (w / 2 ^ at)) (eqb (w / 2 ^ at) c)
-    (λ t. eq-T (sym (join-split′ fs (w / 2 ^ at) t) ∙ sym (join-0 fs (split′ fs (w / 2 ^ at))) ∙ one (split′ fs (w / 2 ^ at))))
-    (λ t. subst (λ (n : ℕ). T (allowed′ fs n)) (sym (eqb→eq (w / 2 ^ at) c t)) (subst T (allowed-0 fs c) ok))
-  where
-    eq-T : {m : ℕ} → m ≡ c → T (eqb m c)
-    eq-T {m} e = subst (λ (n : ℕ). T (eqb n c)) (sym e) (eqb-refl c)

@@ -1,16 +1,15 @@
 -- The few facts on signed numbers that the code's casts and differences ask.
-use mathlib.Core.Path.{_≡_, refl, sym, ap, subst, _∙_}
+use mathlib.Core.Path.{_≡_, refl, sym, ap, _∙_}
 use mathlib.Core.Bool.{Bool, true, false}
-use Prim.Native.Nat.{ℕ, zero, suc, _+_, _-_, _*_, _^_, _<_, _≤_}
+use Prim.Native.Nat.{ℕ, zero, suc, _+_, _-_, _*_, _<_, _≤_}
 use native.Mathlib.Nat.{zero-add, not-suc-le-zero}
 use native.Mathlib.Numerals.{add-one}
 use native.Mathlib.Omega.{arith}
 use borrow.Author.Tests.{ltb-true, le-ltb, lt-ltb}
-use lib.Dec.{T, ltb}
-use lib.IntN.{ℤ, pos, negsuc, _-ℤ_, natAbs}
-use lib.Signed.{mag, ltZ, nonNeg}
-use mir.Syntax.{w16, w64}
-use mir.Val.{toZ, ofZ, SFits, Fits}
+use lib.IntN.{ℤ, pos, negsuc, _-ℤ_}
+use lib.Signed.{mag, ltZ}
+use mir.Syntax.{w16}
+use mir.Val.{toZ, ofZ, SFits}
 use mir.ValLaws.{toZ-ofZ, toZ-pos}
 use Rattle.bits.specs.Tests.{pick}
 use Rattle.bits.specs.Twos.{signedOf, unsignedOf}

@@ -7,9 +7,9 @@ use native.Mathlib.Nat.{le-of-suc-le-suc, eq-or-lt-of-le, not-suc-le-zero, le-re
 use native.Mathlib.Numerals.{add-one}
 use native.Mathlib.Decide.{decLt}
 use native.Mathlib.Omega.{arith}
-use borrow.Author.Tests.{eqb-true, eq-eqb}
+use borrow.Author.Tests.{eqb-true}
 use lib.Dec.{T, eqb}
-use Rattle.bits.specs.Tests.{pick, both, every}
+use Rattle.bits.specs.Tests.{both, every}
 
 -- ---- yes and no
 
@@ -23,13 +23,6 @@ from-T false t = absurd t
 -- a test does not come out both ways
 pub clash : {a : Bool} → a ≡ true → a ≡ false → ⊥
 clash e f = subst T (sym e ∙ f) tt
-
--- two tests that each follow from the other
-pub same-test : (a b : Bool) → (T a → T b) → (T b → T a) → a ≡ b
-same-test true true f g = refl
-same-test true false f g = absurd (f tt)
-same-test false true f g = absurd (g tt)
-same-test false false f g = refl
 
 both-parts : (a b : Bool) → both a b ≡ true → (a ≡ true) × (b ≡ true)
 both-parts true b e = (refl, e)

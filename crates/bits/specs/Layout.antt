@@ -5,7 +5,7 @@ use Prim.Native.Nat.{ℕ, _+_, _*_, _/_, _^_}
 use lib.Dec.{eqb, ltb}
 use lib.IntN.{ℤ}
 use lib.Signed.{mag}
-use Rattle.bits.specs.Tests.{pick, both}
+use Rattle.bits.specs.Tests.{both}
 use Rattle.bits.specs.Numbers.{fieldOf}
 use Rattle.bits.specs.Twos.{signedOf, unsignedOf}
 

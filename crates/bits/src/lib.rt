@@ -19,7 +19,7 @@ pub fn field(word: u64, low: u32, width: u32) -> u64
 // The word, which has `low` bits, with a value of `width` bits put above them.
 pub fn place(word: u64, low: u32, width: u32, value: u64) -> u64
     requires { ⌜ (word < 2 ^ low) × (value < 2 ^ width) × (low + width < 64) ⌝ }
-    ensures { λ r. ⌜ r ≡ placedOf word low value ⌝ }
+    ensures { λ r. ⌜ (r ≡ placedOf word low value) × (r < 2 ^ (low + width)) ⌝ }
 {
     word | (value << low)
 }

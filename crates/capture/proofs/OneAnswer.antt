@@ -1,17 +1,16 @@
 -- A search has one answer, and its position is the least. Assumes nothing.
-use mathlib.Core.Path.{_≡_, refl, sym, ap, ap₂, _∙_}
+use mathlib.Core.Path.{_≡_, refl, sym, ap, _∙_}
 use mathlib.Core.Bool.{Bool, true, false}
 use mathlib.Core.List.{List}
 use mathlib.Core.Logic.{_⊎_, inl, inr}
-use Prim.Native.Nat.{ℕ, _*_, _≤_, _<_}
+use Prim.Native.Nat.{ℕ, _*_}
 use native.Mathlib.Omega.{arith}
-use borrow.Author.Tests.{ltb-false}
 use lib.Dec.{eqb, ltb}
 use lib.ListN.{length}
 use Rattle.bits.specs.Tests.{pick}
 use Rattle.refusal.specs.Refusals.{numbered, success, badLength, outOfRange, noFrame}
 use Rattle.refusal.specs.declared.Refusal.{Refusal}
-use Rattle.capture.specs.Search.{refusalOf, positionOf, goodAt, Least, NoneFrom, Searched}
+use Rattle.capture.specs.Search.{refusalOf, positionOf, Least, NoneFrom, Searched}
 use Rattle.capture.specs.declared.Found.{Found}
 use Rattle.capture.specs.declared.Found.the-variants.{At, TooLong, PastEnd, NoFrame}
 use Rattle.bits.proofs.TestLaws.{by-lt, clash}

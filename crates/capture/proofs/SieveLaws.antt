@@ -1,17 +1,17 @@
 -- Why the search may pass octets: what a good frame says of the octets that it lies in. Assumes nothing.
-use mathlib.Core.Path.{_≡_, refl, sym, ap, ap₂, _∙_}
+use mathlib.Core.Path.{_≡_, refl, sym, ap, _∙_}
 use mathlib.Core.Bool.{Bool, true, false}
 use mathlib.Core.List.{List}
 use Prim.Native.Nat.{ℕ, _+_, _-_, _*_, _/_, _%_, _^_, _≤_, _<_, min}
 use native.Mathlib.Nat.{min-eq-left, zero-div, div-one}
 use native.Mathlib.Omega.{arith}
-use borrow.Author.Tests.{le-leb, lt-leb, leb-true}
+use borrow.Author.Tests.{le-leb, leb-true}
 use lib.Bits.{bitAnd, and-step, and-shr}
 use lib.Dec.{leb}
 use lib.ListN.{length, getD}
-use Rattle.bits.specs.Tests.{both, every}
+use Rattle.bits.specs.Tests.{every}
 use Rattle.bits.specs.Octets.{bitAt}
-use Rattle.frame.specs.Frame.{goodFrame, frameVerdict, frameAt}
+use Rattle.frame.specs.Frame.{goodFrame, frameAt}
 use Rattle.capture.specs.Search.{goodAt, NoneIn, NoneFrom}
 use Rattle.capture.specs.Sieve.{Idle, Sifted}
 use Rattle.bits.proofs.TestLaws.{by-lt, both-true, clash, rule-at}

@@ -6,7 +6,7 @@ use Prim.Native.Nat.{ℕ, _+_, _-_, _*_, _%_, _≤_, _<_}
 use native.Mathlib.Omega.{arith}
 use borrow.Author.Tests.{le-leb, lt-leb}
 use lib.Dec.{leb, lit<}
-use lib.ListN.{length, getD, set}
+use lib.ListN.{length, set}
 use Rattle.bits.specs.Tests.{pick}
 use Rattle.bits.specs.Numbers.{numOf, sumOf, tab, written}
 use Rattle.bits.specs.Octets.{bitAt, octetOf, octetsOf}

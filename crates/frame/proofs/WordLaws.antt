@@ -6,21 +6,25 @@ use Prim.Native.Nat.{ℕ, _+_, _-_, _*_, _/_, _%_, _^_, _≤_, _<_}
 use native.Mathlib.Nat.{mod-lt, mod-eq-of-lt}
 use native.Mathlib.Omega.{arith}
 use borrow.Author.Tests.{eq-eqb, ne-eqb, le-leb, lt-leb}
-use lib.Dec.{eqb, leb, lit<}
+use lib.Dec.{eqb, leb, lit<, lit≤}
 use lib.ListN.{length, getD}
 use Rattle.bits.specs.Tests.{pick, both}
-use Rattle.bits.specs.Numbers.{numOf, sumOf}
-use Rattle.bits.specs.Octets.{bitAt, octetsOf}
-use Rattle.frame.specs.Frame.{startGood, marksGood, checksGood, columnOf, goodFrame, verdictOf, frameVerdict}
+use Rattle.bits.specs.Numbers.{sumOf}
+use Rattle.bits.specs.Octets.{bitAt}
+use Rattle.frame.specs.Frame.{startGood, marksGood, checksGood, columnOf, goodFrame}
 use Rattle.frame.specs.Words.{placeOf, wordOf, messageBit, dataBit, checkBit, groupBit, frameOf, imageOf}
 use Rattle.bits.proofs.TestLaws.{by-lt, every-all}
 use Rattle.bits.proofs.NumberLaws.{num-ext, num-of, num-lt, num-bit, sum-ext, sum-more}
 use Rattle.bits.proofs.OctetLaws.{bit-lt, bit-octets, length-octets, octets-bits, octets-ext}
-use Rattle.frame.proofs.FrameLaws.{good-ext, verdict-good, start-zero, mark-one, final-one, column-odd}
+use Rattle.frame.proofs.FrameLaws.{good-ext, start-zero, mark-one, final-one, column-odd}
 
 -- ---- the frame of two words, bit by bit
 
 module _ (a b : ℕ) where
+  -- the word of message k
+  abbrev messageOf : ℕ → ℕ
+  messageOf k = pick (leb k 1) a b
+
   -- frame bit n is bit j of group g
   frame-at : (n g j : ℕ) → (n - 1) / 8 ≡ g → (n - 1) % 8 ≡ j → frameOf a b n ≡ groupBit a b g j
   frame-at n g j eg ej = ap₂ (groupBit a b) eg ej
@@ -34,11 +38,17 @@ module _ (a b : ℕ) where
   group-check : (j : ℕ) → 1 ≤ j → j ≤ 6 → groupBit a b 15 j ≡ checkBit a b j
   group-check j h l = rw (ne-eqb j 0 (λ e. omega arith), le-leb j 6 l)
 
-  first-data : (g j : ℕ) → g ≤ 7 → dataBit a b g j ≡ messageBit a (7 * (g - 1) + j)
-  first-data g j h = rw (le-leb g 7 h)
+  -- group m + 1 of message k
+  data-of : (k m j : ℕ) → 1 ≤ k → k ≤ 2 → m < 7 → dataBit a b (7 * (k - 1) + m + 1) j ≡ messageBit (messageOf k) (7 * m + j)
+  data-of k m j h l n =
+      let e : (7 * (k - 1) + m + 1 - 1) % 7 ≡ m = omega arith in
+      ap₂ (λ (t : Bool) (i : ℕ). messageBit (pick t a b) (7 * i + j)) (by-lt 1 k later first) e
+    where
+      later : 1 < k → leb (7 * (k - 1) + m + 1) 7 ≡ leb k 1
+      later q = lt-leb (7 * (k - 1) + m + 1) 7 (omega arith) ∙ sym (lt-leb k 1 q)
 
-  second-data : (g j : ℕ) → 7 < g → dataBit a b g j ≡ messageBit b (7 * (g - 8) + j)
-  second-data g j h = rw (lt-leb g 7 h)
+      first : k ≤ 1 → leb (7 * (k - 1) + m + 1) 7 ≡ leb k 1
+      first q = le-leb (7 * (k - 1) + m + 1) 7 (omega arith) ∙ sym (le-leb k 1 q)
 
   -- bit j of the data groups, as a column has them
   pub column-data : (g j : ℕ) → g < 14 → 1 ≤ j → j ≤ 6 → frameOf a b (8 * g + 9 + j) ≡ dataBit a b (g + 1) j
@@ -47,27 +57,15 @@ module _ (a b : ℕ) where
   pub frame-check : (j : ℕ) → 1 ≤ j → j ≤ 6 → frameOf a b (121 + j) ≡ checkBit a b j
   frame-check j h l = frame-at (121 + j) 15 j (omega arith) (omega arith) ∙ group-check j h l
 
-  message-lt : (w i : ℕ) → messageBit w i < 2
-  message-lt w i = mod-lt _ (lit< tt)
-
   pub frame-lt : (n : ℕ) → frameOf a b n < 2
-  frame-lt n = go (eqb ((n - 1) / 8) 0) (eqb ((n - 1) % 8) 0) (leb ((n - 1) / 8) 14) (leb ((n - 1) % 8) 6) (leb ((n - 1) / 8) 7)
+  frame-lt n = go (eqb ((n - 1) / 8) 0) (eqb ((n - 1) % 8) 0) (leb ((n - 1) / 8) 14) (leb ((n - 1) % 8) 6)
     where
-      g : ℕ
-      g = (n - 1) / 8
-
-      j : ℕ
-      j = (n - 1) % 8
-
-      go : (s m d k f : Bool)
-          → pick s 0 (pick m 1 (pick d (pick f (messageBit a (7 * ((n - 1) / 8 - 1) + (n - 1) % 8)) (messageBit b (7 * ((n - 1) / 8 - 8) + (n - 1) % 8)))
-          (pick k (checkBit a b ((n - 1) % 8)) 1))) < 2
-      go true m d k f = lit< tt
-      go false true d k f = lit< tt
-      go false false true k true = message-lt a _
-      go false false true k false = message-lt b _
-      go false false false true f = mod-lt _ (lit< tt)
-      go false false false false f = lit< tt
+      go : (s m d k : Bool) → pick s 0 (pick m 1 (pick d (dataBit a b ((n - 1) / 8) ((n - 1) % 8)) (pick k (checkBit a b ((n - 1) % 8)) 1))) < 2
+      go true m d k = lit< tt
+      go false true d k = lit< tt
+      go false false true k = mod-lt _ (lit< tt)
+      go false false false true = mod-lt _ (lit< tt)
+      go false false false false = lit< tt
 
   -- ---- the frame of two words is good
 
@@ -89,49 +87,38 @@ module _ (a b : ℕ) where
 
   -- ---- and gives both words back
 
-  first-bit : (i : ℕ) → i < 49 → frameOf a b (placeOf 1 (i + 1)) ≡ a / 2 ^ i % 2
-  first-bit i h =
-      frame-at (placeOf 1 (i + 1)) (i / 7 + 1) (i % 7 + 1) (omega arith) (omega arith)
-      ∙ group-data (i / 7 + 1) (i % 7 + 1) (omega arith) (omega arith) (omega arith)
-      ∙ first-data (i / 7 + 1) (i % 7 + 1) (omega arith)
-      ∙ (let e : 7 * (i / 7 + 1 - 1) + (i % 7 + 1) - 1 ≡ i = omega arith in ap (λ (n : ℕ). a / 2 ^ n % 2) e)
+  word-bit : (k i : ℕ) → 1 ≤ k → k ≤ 2 → i < 49 → frameOf a b (placeOf k (i + 1)) ≡ messageOf k / 2 ^ i % 2
+  word-bit k i h l m =
+      let g = 7 * (k - 1) + i / 7 + 1 in
+      let e : 7 * (i / 7) + (i % 7 + 1) - 1 ≡ i = omega arith in
+      frame-at (placeOf k (i + 1)) g (i % 7 + 1) (omega arith) (omega arith) ∙ group-data g (i % 7 + 1) (omega arith) (omega arith) (omega arith)
+      ∙ data-of k (i / 7) (i % 7 + 1) h l (omega arith) ∙ ap (λ (n : ℕ). messageOf k / 2 ^ n % 2) e
 
-  second-bit : (i : ℕ) → i < 49 → frameOf a b (placeOf 2 (i + 1)) ≡ b / 2 ^ i % 2
-  second-bit i h =
-      frame-at (placeOf 2 (i + 1)) (i / 7 + 8) (i % 7 + 1) (omega arith) (omega arith)
-      ∙ group-data (i / 7 + 8) (i % 7 + 1) (omega arith) (omega arith) (omega arith)
-      ∙ second-data (i / 7 + 8) (i % 7 + 1) (omega arith)
-      ∙ (let e : 7 * (i / 7 + 8 - 8) + (i % 7 + 1) - 1 ≡ i = omega arith in ap (λ (n : ℕ). b / 2 ^ n % 2) e)
-
-  pub first-word : a < 2 ^ 49 → wordOf (frameOf a b) 1 ≡ a
-  first-word h = num-ext _ (λ i. a / 2 ^ i % 2) 49 first-bit ∙ num-of a 49 ∙ mod-eq-of-lt h
-
-  pub second-word : b < 2 ^ 49 → wordOf (frameOf a b) 2 ≡ b
-  second-word h = num-ext _ (λ i. b / 2 ^ i % 2) 49 second-bit ∙ num-of b 49 ∙ mod-eq-of-lt h
+  word-back : (k : ℕ) → 1 ≤ k → k ≤ 2 → messageOf k < 2 ^ 49 → wordOf (frameOf a b) k ≡ messageOf k
+  word-back k h l m = num-ext _ (λ i. messageOf k / 2 ^ i % 2) 49 (λ i n. word-bit k i h l n) ∙ num-of (messageOf k) 49 ∙ mod-eq-of-lt m
 
 -- ---- a good frame is that of its words
 
-word-bit : (f : ℕ → ℕ) → ((n : ℕ) → f n < 2) → (k i : ℕ) → 1 ≤ i → i ≤ 49 → messageBit (wordOf f k) i ≡ f (placeOf k i)
-word-bit f bits k i h l =
+read-bit : (f : ℕ → ℕ) → ((n : ℕ) → f n < 2) → (k i : ℕ) → 1 ≤ i → i ≤ 49 → messageBit (wordOf f k) i ≡ f (placeOf k i)
+read-bit f bits k i h l =
     let e : i - 1 + 1 ≡ i = omega arith in
     num-bit (λ m. f (placeOf k (m + 1))) 49 (i - 1) (λ m. bits _) (omega arith) ∙ ap (λ (m : ℕ). f (placeOf k m)) e
 
 module _ (f : ℕ → ℕ) (bits : (n : ℕ) → f n < 2) (good : goodFrame f ≡ true) where
-  a : ℕ
-  a = wordOf f 1
-
-  b : ℕ
-  b = wordOf f 2
+  words-of : (k : ℕ) → 1 ≤ k → k ≤ 2 → messageOf (wordOf f 1) (wordOf f 2) k ≡ wordOf f k
+  words-of k h l =
+      by-lt 1 k (λ q. let e : 2 ≡ k = omega arith in rw (lt-leb k 1 q) (ap (wordOf f) e)) (λ q. let e : 1 ≡ k = omega arith in rw (le-leb k 1 q) (ap (wordOf f) e))
 
   data-same : (g j : ℕ) → 1 ≤ g → g ≤ 14 → 1 ≤ j → j ≤ 7 → dataBit (wordOf f 1) (wordOf f 2) g j ≡ f (8 * g + 1 + j)
   data-same g j h l k m =
-      by-lt 7 g
-      (λ q.
-      let e : placeOf 2 (7 * (g - 8) + j) ≡ 8 * g + 1 + j = omega arith in
-      second-data (wordOf f 1) (wordOf f 2) g j q ∙ word-bit f bits 2 (7 * (g - 8) + j) (omega arith) (omega arith) ∙ ap f e)
-      (λ q.
-      let e : placeOf 1 (7 * (g - 1) + j) ≡ 8 * g + 1 + j = omega arith in
-      first-data (wordOf f 1) (wordOf f 2) g j q ∙ word-bit f bits 1 (7 * (g - 1) + j) (omega arith) (omega arith) ∙ ap f e)
+      let n = (g - 1) / 7 + 1 in
+      let r = (g - 1) % 7 in
+      let eg : g ≡ 7 * (n - 1) + r + 1 = omega arith in
+      let ep : placeOf n (7 * r + j) ≡ 8 * g + 1 + j = omega arith in
+      ap (λ (x : ℕ). dataBit (wordOf f 1) (wordOf f 2) x j) eg
+      ∙ data-of (wordOf f 1) (wordOf f 2) n r j (omega arith) (omega arith) (omega arith)
+      ∙ ap (λ (x : ℕ). messageBit x (7 * r + j)) (words-of n (omega arith) (omega arith))
+      ∙ read-bit f bits n (7 * r + j) (omega arith) (omega arith) ∙ ap f ep
 
   check-same : (j : ℕ) → 1 ≤ j → j ≤ 6 → checkBit (wordOf f 1) (wordOf f 2) j ≡ f (121 + j)
   check-same j h l =
@@ -145,12 +132,6 @@ module _ (f : ℕ → ℕ) (bits : (n : ℕ) → f n < 2) (good : goodFrame f �
   frame-same : (n : ℕ) → 1 ≤ n → n ≤ 128 → frameOf (wordOf f 1) (wordOf f 2) n ≡ f n
   frame-same n h l = by-lt n 9 start (λ p. by-lt 0 ((n - 1) % 8) (inside p) (mark p))
     where
-      x : ℕ
-      x = wordOf f 1
-
-      y : ℕ
-      y = wordOf f 2
-
       start : n < 9 → frameOf (wordOf f 1) (wordOf f 2) n ≡ f n
       start p =
           let e : n - 1 + 1 ≡ n = omega arith in
@@ -197,15 +178,16 @@ module _ (first second : ℕ) where
   unfolding imageOf
   length-image = length-octets 16 (frameOf first second)
 
-  place-in : (k i : ℕ) → 1 ≤ k → k ≤ 2 → i < 49 → bitAt (imageOf first second) (placeOf k (i + 1)) ≡ frameOf first second (placeOf k (i + 1))
-  place-in k i h l m = image-bit (placeOf k (i + 1)) (omega arith) (omega arith)
+  image-word : (k : ℕ) → 1 ≤ k → k ≤ 2 → messageOf first second k < 2 ^ 49 → wordOf (bitAt (imageOf first second)) k ≡ messageOf first second k
+  image-word k h l m =
+      num-ext _ _ 49 (λ i n. image-bit (placeOf k (i + 1)) (omega arith) (omega arith)) ∙ word-back first second k h l m
 
   -- and gives both words back
   pub image-first : first < 2 ^ 49 → wordOf (bitAt (imageOf first second)) 1 ≡ first
-  image-first h = num-ext _ _ 49 (λ i l. place-in 1 i (omega arith) (omega arith) l) ∙ first-word first second h
+  image-first h = image-word 1 (lit≤ tt) (lit≤ tt) h
 
   pub image-second : second < 2 ^ 49 → wordOf (bitAt (imageOf first second)) 2 ≡ second
-  image-second h = num-ext _ _ 49 (λ i l. place-in 2 i (omega arith) (omega arith) l) ∙ second-word first second h
+  image-second h = image-word 2 (lit≤ tt) (lit≤ tt) h
 
 module _ (image : List ℕ) (size : length image ≡ 16) (octets : (k : ℕ) → getD image k 0 < 256) (good : goodFrame (bitAt image) ≡ true) where
   -- a good image is the image of its words

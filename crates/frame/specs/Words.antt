@@ -21,7 +21,7 @@ messageBit word i = word / 2 ^ (i - 1) % 2
 
 -- bit j of data group g: groups 1 to 7 carry the first message's bits 1 to 49 in rising order, groups 8 to 14 the second's
 abbrev pub dataBit : ℕ → ℕ → ℕ → ℕ → ℕ
-dataBit first second g j = pick (leb g 7) (messageBit first (7 * (g - 1) + j)) (messageBit second (7 * (g - 8) + j))
+dataBit first second g j = messageBit (pick (leb g 7) first second) (7 * ((g - 1) % 7) + j)
 
 -- check bit j makes odd the number of ones among bit j of the fourteen data groups and itself
 abbrev pub checkBit : ℕ → ℕ → ℕ → ℕ

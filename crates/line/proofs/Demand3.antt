@@ -2,7 +2,7 @@
 use mathlib.Core.Path.{_≡_, refl, sym, ap, ap₂, _∙_}
 use mathlib.Core.Bool.{Bool, true, false}
 use mathlib.Core.List.{List, [], _∷_, _++_, map, append-assoc}
-use Prim.Native.Nat.{ℕ, zero, suc, _+_, _-_, _*_, _≤_, _<_}
+use Prim.Native.Nat.{ℕ, _+_, _-_, _≤_, _<_}
 use native.Mathlib.Omega.{arith}
 use borrow.Author.Tests.{le-ltb, le-leb, ltb-false, leb-true, eqb-true, eq-eqb}
 use lib.Dec.{leb, eqb}
@@ -14,11 +14,11 @@ use Rattle.refusal.specs.Refusals.{numbered, success}
 use Rattle.refusal.specs.declared.Refusal.{Refusal}
 use Rattle.frame.specs.Frame.{goodFrame, frameVerdict}
 use Rattle.line.specs.Levels.{refused, kept, bitsAfter, bitsOf, decoded}
-use Rattle.line.specs.Machine.{noImage, refusedBy, heardOf, run}
+use Rattle.line.specs.Machine.{refusedBy, heardOf, run}
 use Rattle.line.specs.Hearing.{lastFrame, endsGood, toldOf, told, swap}
 use Rattle.line.specs.Sending.{levelsAfter, imageBits, sendNumber, sendLevels}
 use Rattle.line.specs.declared.Heard.{Heard}
-use Rattle.bits.proofs.TestLaws.{by-lt, both-true, clash}
+use Rattle.bits.proofs.TestLaws.{both-true, clash}
 use Rattle.bits.proofs.NumberLaws.{length-tab, getD-tab}
 use Rattle.bits.proofs.OctetLaws.{bit-lt, octets-bits, octets-ext}
 use Rattle.frame.proofs.FrameLaws.{good-ext, verdict-good, apart}

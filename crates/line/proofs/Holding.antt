@@ -1,20 +1,18 @@
 -- What a receiver holds after a run of levels, and what it answers. Assumes nothing.
-use mathlib.Core.Path.{_≡_, refl, sym, ap, ap₂, _∙_}
+use mathlib.Core.Path.{_≡_, refl, sym, ap, _∙_}
 use mathlib.Core.Bool.{Bool, true, false}
 use mathlib.Core.List.{List, [], _∷_, _++_, append-assoc, append-nil}
-use Prim.Native.Nat.{ℕ, zero, suc, _+_, _-_, _*_, _/_, _%_, _^_, _≤_, _<_}
-use native.Mathlib.Nat.{mod-lt}
+use Prim.Native.Nat.{ℕ, _+_, _-_, _/_, _%_, _^_, _≤_, _<_}
 use native.Mathlib.Omega.{arith}
-use borrow.Author.Tests.{le-leb, lt-leb, leb-true, ltb-false, eqb-true}
-use lib.Dec.{leb, eqb, lit<}
+use borrow.Author.Tests.{le-leb, lt-leb, ltb-false}
+use lib.Dec.{lit<}
 use lib.ListN.{length, getD}
 use lib.Pow.{shr-shr}
 use Rattle.bits.specs.Tests.{pick, both, every}
 use Rattle.bits.specs.Octets.{bitAt, octetsOf}
-use Rattle.refusal.specs.Refusals.{numbered, success}
 use Rattle.frame.specs.Frame.{goodFrame}
-use Rattle.line.specs.Levels.{refused, differ, kept, bitsAfter, bitsOf, decoded}
-use Rattle.line.specs.Machine.{pushed, windowImage, noImage, freshOf, accepted, holdsFrame, answerOf, refusedBy, heardOf, runFrom, run}
+use Rattle.line.specs.Levels.{refused, differ, kept, bitsAfter, bitsOf}
+use Rattle.line.specs.Machine.{windowImage, freshOf, accepted, holdsFrame, answerOf, heardOf, runFrom, run}
 use Rattle.line.specs.Hearing.{lastFrame, endsGood, toldOf, told}
 use Rattle.line.specs.declared.Window.{Window}
 use Rattle.line.specs.declared.Receiver.{Receiver}
@@ -22,7 +20,7 @@ use Rattle.line.specs.declared.Heard.{Heard}
 use Rattle.bits.proofs.TestLaws.{by-lt, clash, rule-at}
 use Rattle.bits.proofs.OctetLaws.{octets-bits, octets-ext}
 use Rattle.frame.proofs.FrameLaws.{good-ext, start-zero}
-use Rattle.line.proofs.WindowLaws.{Bits, none, more, valFrom, val-snoc, val-div, val-bit, Low, push-low, window-octet, window-bit}
+use Rattle.line.proofs.WindowLaws.{Bits, none, valFrom, val-snoc, val-div, val-bit, Low, push-low, window-octet, window-bit}
 use Rattle.line.proofs.LevelLaws.{lastOf, last-snoc, differ-le, bits-append, bits-bits, kept-snoc}
 
 -- the ones of an idle line

@@ -4,10 +4,9 @@ use mathlib.Core.List.{List, [], _∷_, _++_}
 use Prim.Native.Nat.{ℕ, _+_, _≤_, _<_}
 use native.Mathlib.Numerals.{add-one}
 use native.Mathlib.Omega.{arith}
-use borrow.Author.Tests.{ne-eqb, lt-ltb, le-ltb, eq-eqb}
+use borrow.Author.Tests.{ne-eqb, lt-ltb, le-ltb}
 use lib.ListN.{length, take, getD, set, length-set}
 use lib.Seq.{take-suc, take-suc-set, take-all}
-use Rattle.bits.specs.Octets.{bitAt}
 use Rattle.refusal.specs.Refusals.{success, badLevel, badLength}
 use Rattle.frame.specs.Frame.{verdictOf}
 use Rattle.line.specs.Sending.{next, levelsAfter, imageBits, sendNumber, sendLevels}

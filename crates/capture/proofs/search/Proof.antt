@@ -1,11 +1,10 @@
 -- `capture::search` meets its contract. The loop's invariant: no good frame from the start on at the positions passed. Assumes nothing.
 use mathlib.Core.Logic.{inl, inr}
-use mathlib.Core.Path.{_≡_, refl}
-use Prim.Native.Nat.{_-_, _*_, _≤_}
+use mathlib.Core.Path.{refl}
+use Prim.Native.Nat.{_-_, _≤_}
 use native.Mathlib.Omega.{arith}
 use borrow.Author.Needs.{needs}
 use borrow.Author.Tests.{lt-ltb, le-ltb}
-use lib.ListN.{length}
 use Rattle.capture.specs.Search.{NoneIn}
 use Rattle.capture.proofs.SieveLaws.{none-join, none-end}
 use Rattle.capture.proofs.search.Statement.{statement}

@@ -1,9 +1,8 @@
 -- `frame::column` meets its contract. The loop's invariant: the number holds the bits passed. Assumes nothing.
 use mathlib.Core.Path.{_≡_, sym, ap, _∙_}
-use Prim.Native.Nat.{ℕ, _+_, _-_, _*_, _≤_}
+use Prim.Native.Nat.{_+_, _-_, _*_, _≤_}
 use native.Mathlib.Omega.{arith}
 use borrow.Author.Needs.{needs}
-use lib.ListN.{length}
 use Rattle.bits.specs.Numbers.{numOf}
 use Rattle.frame.specs.Frame.{frameAt}
 use Rattle.bits.proofs.NumberLaws.{num-none, num-turn}

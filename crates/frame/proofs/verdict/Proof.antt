@@ -1,6 +1,5 @@
 -- `frame::verdict` meets its contract. Assumes nothing.
 use mathlib.Core.Path.{sym, ap, _∙_}
-use Prim.Native.Nat.{ℕ}
 use borrow.Author.Needs.{needs}
 use Rattle.frame.specs.Frame.{frameVerdict}
 use Rattle.refusal.specs.Refusals.{numbered}

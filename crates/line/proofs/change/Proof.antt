@@ -1,5 +1,4 @@
 -- `line::change` meets its contract. Assumes nothing.
-use mathlib.Core.Path.{sym}
 use borrow.Author.Tests.{eq-eqb, ne-eqb}
 use Rattle.line.proofs.change.Statement.{statement}
 use Rattle.line.proofs.change.Tie as tie

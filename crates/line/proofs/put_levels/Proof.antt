@@ -1,9 +1,7 @@
 -- `line::put_levels` meets its contract. The loop's invariant: the levels passed tell the bits passed. Assumes nothing.
-use mathlib.Core.List.{List}
-use mathlib.Core.Path.{_≡_, sym, ap, ap₂, _∙_}
-use Prim.Native.Nat.{ℕ, _-_, _≤_}
+use mathlib.Core.Path.{sym, ap, _∙_}
+use Prim.Native.Nat.{_-_}
 use borrow.Author.Needs.{needs}
-use lib.ListN.{length}
 use Rattle.line.specs.Sending.{imageBits, next}
 use Rattle.bits.proofs.NumberLaws.{getD-tab, length-tab}
 use Rattle.line.proofs.SendingLaws.{Sending, sending-start, sending-more, sending-done}

@@ -1,0 +1,12 @@
+// Runs the examples of the papers and cases at the edges; each line says what was asked and what came.
+mod captures;
+mod frames;
+mod images;
+mod levels;
+mod show;
+
+fn main() {
+    frames::run();
+    levels::run();
+    captures::run();
+}
