@@ -1,4 +1,4 @@
--- The few facts on signed numbers that the code's casts and differences ask.
+-- The facts on signed numbers that the code's casts and differences ask. Assumes nothing.
 use mathlib.Core.Path.{_≡_, refl, sym, ap, _∙_}
 use mathlib.Core.Bool.{Bool, true, false}
 use Prim.Native.Nat.{ℕ, zero, suc, _+_, _-_, _*_, _<_, _≤_}

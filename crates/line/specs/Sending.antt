@@ -1,4 +1,5 @@
 -- What is sent for an image (001, Annex A, Appendix 3, paragraph 4; 01, 'Orders of checks').
+use mathlib.Core.Path.{_≡_}
 use mathlib.Core.List.{List, [], _∷_}
 use Prim.Native.Nat.{ℕ, _+_, _-_}
 use lib.Dec.{eqb}
@@ -6,7 +7,8 @@ use lib.ListN.{length}
 use Rattle.bits.specs.Tests.{pick}
 use Rattle.bits.specs.Numbers.{tab}
 use Rattle.bits.specs.Octets.{bitAt}
-use Rattle.refusal.specs.Refusals.{success, badLevel, badLength}
+use Rattle.refusal.specs.Refusals.{numbered, success, badLevel, badLength}
+use Rattle.refusal.specs.declared.Refusal.{Refusal}
 use Rattle.frame.specs.Frame.{frameVerdict}
 use Rattle.line.specs.Levels.{refused}
 
@@ -36,3 +38,8 @@ sendNumber image previous buffer =
 unfoldable pub sendLevels : List ℕ → ℕ → List ℕ → List ℕ
 sendLevels image previous buffer =
     pick (eqb (sendNumber image previous buffer) success) (levelsAfter previous (imageBits image)) buffer
+
+-- the refusal that comes back, and the buffer afterwards
+abbrev pub Sent : List ℕ → ℕ → List ℕ → Refusal → List ℕ → Type 0
+Sent image previous buffer refusal after =
+    (refusal ≡ numbered (sendNumber image previous buffer)) × (after ≡ sendLevels image previous buffer)

@@ -3,10 +3,9 @@
 ghost use mathlib.Core.Path.{_≡_};
 ghost use Prim.Native.Nat.{_≤_};
 ghost use lib.ListN.{length};
-ghost use Rattle.refusal.specs.Refusals.{numbered};
 ghost use Rattle.line.specs.Levels.{differ};
 ghost use Rattle.line.specs.Machine.{pushed, windowImage, freshOf, accepted, silentOf, answerOf, heardOf};
-ghost use Rattle.line.specs.Sending.{next, levelsAfter, imageBits, sendNumber, sendLevels};
+ghost use Rattle.line.specs.Sending.{next, levelsAfter, imageBits, Sent};
 use refusal::Refusal;
 
 // The last 128 bits: the oldest weighs most in `older`, the newest least in `newer`.
@@ -185,7 +184,7 @@ fn put_levels(image: &[u8], previous: u8, levels: &mut [u8])
 
 // Sends a good image as 128 levels after the previous level: 2 image, 2 buffer, 1, 3, 4, 5.
 pub fn send(image: &[u8], previous: u8, levels: &mut [u8]) -> Refusal
-    ensures { λ r. ⌜ (r ≡ numbered (sendNumber (now (image .entry)) previous (now (levels .entry)))) × (now (levels .exit) ≡ sendLevels (now (image .entry)) previous (now (levels .entry))) ⌝ }
+    ensures { λ r. ⌜ Sent (now (image .entry)) previous (now (levels .entry)) r (now (levels .exit)) ⌝ }
 {
     if image.len() != 16 {
         return Refusal::of(refusal::BAD_LENGTH);
