@@ -5,10 +5,13 @@ use mathlib.Core.List.{List, [], _∷_}
 use Prim.Native.Nat.{ℕ, zero, suc, _+_, _-_, _*_, _/_, _%_, _^_, _<_}
 use native.Mathlib.Nat.{mod-add-div', mod-lt, add-mul-mod-self-right, add-mul-div-right, mod-eq-of-lt, div-eq-of-lt, zero-add, div-one, mul-one, add-mul, mul-assoc, mul-comm}
 use native.Mathlib.Omega.{arith}
-use lib.Dec.{T, eqb, ltb, eqb→eq, eqb-refl, lt→ltb, ltb→lt}
+use borrow.Author.Tests.{lt-ltb, ltb-true}
+use lib.Dec.{T, eqb, ltb, eqb→eq, lt→ltb, ltb→lt}
 use lib.Pow.{pow-pos, pow-add, shr-shr}
-use Rattle.bits.specs.Tests.{both}
-use Rattle.bits.specs.Layout.{Field, fixed, number, code, flag, signed, widthOf, Value, Values, bit, readAs, writeAs, allows, takes, allowed, split, fits, join}
+use lib.Signed.{mag}
+use Rattle.bits.specs.Tests.{pick, both}
+use Rattle.bits.specs.Twos.{signedOf, unsignedOf}
+use Rattle.bits.specs.Layout.{Field, fixed, number, code, flag, signed, widthOf, Value, Values, bit, readAs, writeAs, allows, allowed, split, fits, join}
 use Rattle.bits.proofs.TestLaws.{both-left, both-right, both-intro}
 use Rattle.bits.proofs.TwosLaws.{unsigned-signed, signed-range, signed-unsigned}
 
@@ -22,34 +25,37 @@ bit-eqb (suc (suc n)) h = absurd (omega arith)
 double : (h : ℕ) → 2 ^ (h + 1) ≡ 2 ^ h * 2
 double h = pow-add 2 h 1
 
-pub write-read : (f : Field) (n : ℕ) → n < 2 ^ widthOf f → T (allows f n) → writeAs f (readAs f n) ≡ n
+-- the bits n are those of a value of the field
+abbrev inField : Field → ℕ → Bool
+inField f n = both (ltb n (2 ^ widthOf f)) (allows f n)
+
+in-width : (f : Field) (n : ℕ) → T (inField f n) → n < 2 ^ widthOf f
+in-width f n t = ltb→lt _ _ (both-left (ltb n (2 ^ widthOf f)) (allows f n) t)
+
+in-allows : (f : Field) (n : ℕ) → T (inField f n) → T (allows f n)
+in-allows f n t = both-right (ltb n (2 ^ widthOf f)) (allows f n) t
+
+write-read : (f : Field) (n : ℕ) → n < 2 ^ widthOf f → T (allows f n) → writeAs f (readAs f n) ≡ n
 write-read (fixed k c) n h t = sym (eqb→eq n c t)
 write-read (number k) n h t = refl
 write-read (code k unused) n h t = refl
 write-read flag n h t = bit-eqb n h
-write-read (signed k) n h t = unsigned-signed (2 ^ k) n (rw (double k) at h)
+write-read (signed k) n h t =
+    let l : n < 2 ^ k * 2 = rw (double k) at h in
+    ap (λ (b : Bool). pick b (unsignedOf (2 ^ k) (signedOf (2 ^ k) n)) (2 ^ (k + 1))) (lt-ltb _ _ (signed-range (2 ^ k) n l)) ∙ unsigned-signed (2 ^ k) n l
 
-pub read-ok : (f : Field) (n : ℕ) → n < 2 ^ widthOf f → T (allows f n) → T (takes f (readAs f n))
-read-ok (fixed k c) n h t = tt
-read-ok (number k) n h t = tt
-read-ok (code k unused) n h t = t
-read-ok flag n h t = tt
-read-ok (signed k) n h t = lt→ltb _ _ (signed-range (2 ^ k) n (rw (double k) at h))
-
-pub read-write : (f : Field) (v : Value f) → T (takes f v) → readAs f (writeAs f v) ≡ v
+read-write : (f : Field) (v : Value f) → T (inField f (writeAs f v)) → readAs f (writeAs f v) ≡ v
 read-write (fixed k c) v t = refl
 read-write (number k) v t = refl
 read-write (code k unused) v t = refl
 read-write flag true t = refl
 read-write flag false t = refl
-read-write (signed k) v t = signed-unsigned (2 ^ k) v (ltb→lt _ _ t)
-
-pub write-allowed : (f : Field) (v : Value f) → T (takes f v) → T (allows f (writeAs f v))
-write-allowed (fixed k c) v t = eqb-refl c
-write-allowed (number k) v t = tt
-write-allowed (code k unused) v t = t
-write-allowed flag v t = tt
-write-allowed (signed k) v t = tt
+read-write (signed k) v t = go (ltb (mag v) (2 ^ k)) refl (in-width (signed k) (writeAs (signed k) v) t)
+  where
+    go : (b : Bool) → ltb (mag v) (2 ^ k) ≡ b → pick b (unsignedOf (2 ^ k) v) (2 ^ (k + 1)) < 2 ^ (k + 1)
+        → signedOf (2 ^ k) (pick b (unsignedOf (2 ^ k) v) (2 ^ (k + 1))) ≡ v
+    go true e h = signed-unsigned (2 ^ k) v (ltb-true _ _ e)
+    go false e h = absurd (omega arith)
 
 -- a layout, each field taken off the low end
 
@@ -105,20 +111,19 @@ fits-split′ (f ∷ fs) w t =
     let a : T (allows f n) = both-left (allows f n) (allowed′ fs (w / 2 ^ widthOf f)) t in
     let r : T (allowed′ fs (w / 2 ^ widthOf f)) = both-right (allows f n) (allowed′ fs (w / 2 ^ widthOf f)) t in
     let h : n < 2 ^ widthOf f = mod-lt w (pow-pos (widthOf f)) in
-    let v : Value f = readAs f n in
-    both-intro (ltb (writeAs f v) (2 ^ widthOf f)) (both (takes f v) (fits fs (split′ fs (w / 2 ^ widthOf f))))
-    (subst (λ (x : ℕ). T (ltb x (2 ^ widthOf f))) (sym (write-read f n h a)) (lt→ltb n (2 ^ widthOf f) h))
-    (both-intro (takes f v) (fits fs (split′ fs (w / 2 ^ widthOf f))) (read-ok f n h a) (fits-split′ fs (w / 2 ^ widthOf f) r))
+    both-intro (inField f (writeAs f (readAs f n))) (fits fs (split′ fs (w / 2 ^ widthOf f)))
+    (subst (λ (x : ℕ). T (inField f x)) (sym (write-read f n h a)) (both-intro (ltb n (2 ^ widthOf f)) (allows f n) (lt→ltb n (2 ^ widthOf f) h) a))
+    (fits-split′ fs (w / 2 ^ widthOf f) r)
 
 module _ (f : Field) (fs : List Field) (vs : Values (f ∷ fs)) (t : T (fits (f ∷ fs) vs)) where
-  fit-width : writeAs f (vs .0) < 2 ^ widthOf f
-  fit-width = ltb→lt _ _ (both-left (ltb (writeAs f (vs .0)) (2 ^ widthOf f)) (both (takes f (vs .0)) (fits fs (vs .1))) t)
+  fit-field : T (inField f (writeAs f (vs .0)))
+  fit-field = both-left (inField f (writeAs f (vs .0))) (fits fs (vs .1)) t
 
-  fit-ok : T (takes f (vs .0))
-  fit-ok = both-left (takes f (vs .0)) (fits fs (vs .1)) (both-right (ltb (writeAs f (vs .0)) (2 ^ widthOf f)) (both (takes f (vs .0)) (fits fs (vs .1))) t)
+  fit-width : writeAs f (vs .0) < 2 ^ widthOf f
+  fit-width = in-width f (writeAs f (vs .0)) fit-field
 
   fit-rest : T (fits fs (vs .1))
-  fit-rest = both-right (takes f (vs .0)) (fits fs (vs .1)) (both-right (ltb (writeAs f (vs .0)) (2 ^ widthOf f)) (both (takes f (vs .0)) (fits fs (vs .1))) t)
+  fit-rest = both-right (inField f (writeAs f (vs .0))) (fits fs (vs .1)) t
 
 low : (v j k : ℕ) → v < 2 ^ k → (v + j * 2 ^ k) % 2 ^ k ≡ v
 low v j k h = add-mul-mod-self-right v j (2 ^ k) ∙ mod-eq-of-lt h
@@ -132,7 +137,7 @@ split-join′ [] vs t = refl
 split-join′ (f ∷ fs) vs t =
     let h : writeAs f (vs .0) < 2 ^ widthOf f = fit-width f fs vs t in
     let p : readAs f ((writeAs f (vs .0) + join′ fs (vs .1) * 2 ^ widthOf f) % 2 ^ widthOf f) ≡ vs .0
-    = ap (readAs f) (low (writeAs f (vs .0)) (join′ fs (vs .1)) (widthOf f) h) ∙ read-write f (vs .0) (fit-ok f fs vs t) in
+    = ap (readAs f) (low (writeAs f (vs .0)) (join′ fs (vs .1)) (widthOf f) h) ∙ read-write f (vs .0) (fit-field f fs vs t) in
     let q : split′ fs ((writeAs f (vs .0) + join′ fs (vs .1) * 2 ^ widthOf f) / 2 ^ widthOf f) ≡ vs .1
     = ap (split′ fs) (high (writeAs f (vs .0)) (join′ fs (vs .1)) (widthOf f) h) ∙ split-join′ fs (vs .1) (fit-rest f fs vs t) in
     λ i. (p i, q i)
@@ -144,7 +149,7 @@ allowed-join′ (f ∷ fs) vs t =
     let h : writeAs f (vs .0) < 2 ^ widthOf f = fit-width f fs vs t in
     let w : ℕ = writeAs f (vs .0) + join′ fs (vs .1) * 2 ^ widthOf f in
     both-intro (allows f (w % 2 ^ widthOf f)) (allowed′ fs (w / 2 ^ widthOf f))
-    (subst (λ (n : ℕ). T (allows f n)) (sym (low (writeAs f (vs .0)) (join′ fs (vs .1)) (widthOf f) h)) (write-allowed f (vs .0) (fit-ok f fs vs t)))
+    (subst (λ (n : ℕ). T (allows f n)) (sym (low (writeAs f (vs .0)) (join′ fs (vs .1)) (widthOf f) h)) (in-allows f (writeAs f (vs .0)) (fit-field f fs vs t)))
     (subst (λ (n : ℕ). T (allowed′ fs n)) (sym (high (writeAs f (vs .0)) (join′ fs (vs .1)) (widthOf f) h)) (allowed-join′ fs (vs .1) (fit-rest f fs vs t)))
 
 -- the same at the lowest bit, as the definitions of specs/ have them
@@ -169,3 +174,8 @@ split-join fs vs t = split-0 fs (join 0 fs vs) ∙ ap (split′ fs) (join-0 fs v
 
 pub allowed-join : (fs : List Field) (vs : Values fs) → T (fits fs vs) → T (allowed 0 fs (join 0 fs vs))
 allowed-join fs vs t = subst T (sym (allowed-0 fs (join 0 fs vs) ∙ ap (allowed′ fs) (join-0 fs vs))) (allowed-join′ fs vs t)
+
+-- the first field of what is joined
+pub first-join : (f : Field) (fs : List Field) (vs : Values (f ∷ fs)) → T (fits (f ∷ fs) vs) → join 0 (f ∷ fs) vs % 2 ^ widthOf f ≡ writeAs f (vs .0)
+unfolding join′
+first-join f fs vs t = ap (λ (n : ℕ). n % 2 ^ widthOf f) (join-0 (f ∷ fs) vs) ∙ low (writeAs f (vs .0)) (join′ fs (vs .1)) (widthOf f) (fit-width f fs vs t)

@@ -3,4 +3,5 @@ pub mod NumberLaws
 pub mod OctetLaws
 pub mod TwosLaws
 pub mod LayoutLaws
+pub mod RuleLaws
 mod SignedLaws

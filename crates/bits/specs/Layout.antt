@@ -5,7 +5,7 @@ use Prim.Native.Nat.{ℕ, _+_, _*_, _/_, _^_}
 use lib.Dec.{eqb, ltb}
 use lib.IntN.{ℤ}
 use lib.Signed.{mag}
-use Rattle.bits.specs.Tests.{both}
+use Rattle.bits.specs.Tests.{pick, both}
 use Rattle.bits.specs.Numbers.{fieldOf}
 use Rattle.bits.specs.Twos.{signedOf, unsignedOf}
 
@@ -49,7 +49,7 @@ abbrev pub noneOf : List ℕ → ℕ → Bool
 noneOf [] n = true
 noneOf (x ∷ xs) n = both (not (eqb x n)) (noneOf xs n)
 
--- the value of a field's bits, and the bits of a value
+-- the value of a field's bits
 abbrev pub readAs : (f : Field) → ℕ → Value f
 readAs (fixed k c) n = tt
 readAs (number k) n = n
@@ -57,12 +57,13 @@ readAs (code k unused) n = n
 readAs flag n = eqb n 1
 readAs (signed k) n = signedOf (2 ^ k) n
 
+-- the bits of a value; of a signed number out of range, a number that is too wide
 abbrev pub writeAs : (f : Field) → Value f → ℕ
 writeAs (fixed k c) v = c
 writeAs (number k) v = v
 writeAs (code k unused) v = v
 writeAs flag v = bit v
-writeAs (signed k) v = unsignedOf (2 ^ k) v
+writeAs (signed k) v = pick (ltb (mag v) (2 ^ k)) (unsignedOf (2 ^ k) v) (2 ^ (k + 1))
 
 -- the bits n, which are below 2 ^ widthOf f, may stand in the field
 abbrev pub allows : Field → ℕ → Bool
@@ -72,14 +73,6 @@ allows (code k unused) n = noneOf unused n
 allows flag n = true
 allows (signed k) n = true
 
--- the value, if its bits are not too many, may stand in the field
-abbrev pub takes : (f : Field) → Value f → Bool
-takes (fixed k c) v = true
-takes (number k) v = true
-takes (code k unused) v = noneOf unused v
-takes flag v = true
-takes (signed k) v = ltb (mag v) (2 ^ k)
-
 -- the bits of a word from weight 2 ^ at on are as the layout has them, with none above
 abbrev pub allowed : ℕ → List Field → ℕ → Bool
 allowed at [] word = eqb (word / 2 ^ at) 0
@@ -88,7 +81,7 @@ allowed at (f ∷ fs) word = both (allows f (fieldOf word at (widthOf f))) (allo
 -- the values fit their fields
 abbrev pub fits : (fs : List Field) → Values fs → Bool
 fits [] vs = true
-fits (f ∷ fs) vs = both (ltb (writeAs f (vs .0)) (2 ^ widthOf f)) (both (takes f (vs .0)) (fits fs (vs .1)))
+fits (f ∷ fs) vs = both (both (ltb (writeAs f (vs .0)) (2 ^ widthOf f)) (allows f (writeAs f (vs .0)))) (fits fs (vs .1))
 
 abbrev pub split : ℕ → (fs : List Field) → ℕ → Values fs
 split at [] word = tt

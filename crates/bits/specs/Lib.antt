@@ -3,3 +3,4 @@ pub mod Numbers
 pub mod Octets
 pub mod Twos
 pub mod Layout
+pub mod Rules

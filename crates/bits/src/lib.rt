@@ -6,7 +6,10 @@ ghost use lib.ListN.{length};
 ghost use lib.Signed.{mag};
 ghost use Rattle.bits.specs.Numbers.{fieldOf, placedOf};
 ghost use Rattle.bits.specs.Octets.{bitAt};
+ghost use lib.Dec.{ltb};
+ghost use Rattle.bits.specs.Tests.{both};
 ghost use Rattle.bits.specs.Twos.{signedOf, unsignedOf};
+ghost use Rattle.bits.specs.Rules.{ruleAllows, total, ruled, packedOf};
 
 // The field of `width` bits whose lowest has weight 2^low.
 pub fn field(word: u64, low: u32, width: u32) -> u64
@@ -59,4 +62,81 @@ pub fn unsigned(z: i16, sign: u64) -> u64
 {
     let m = magnitude(z);
     if z < 0 { sign * 2 - 1 - m } else { m }
+}
+
+// A rule from here on is the number that a field always is; below, it has a one for each code that is not used.
+pub const FIXED: u64 = 0x8000_0000_0000_0000;
+
+// Whether a field's number keeps its rule.
+fn keeps(rule: u64, n: u64) -> bool
+    ensures { λ r. ⌜ r ≡ ruleAllows rule n ⌝ }
+{
+    if FIXED <= rule {
+        return n == rule - FIXED;
+    }
+    if 63 < n {
+        return true;
+    }
+    (rule >> n) % 2 == 0
+}
+
+// Whether the fields of a word above its `low` bits keep their rules, with no bit above them.
+pub fn is_allowed(word: u64, low: u32, widths: &[u32], rules: &[u64]) -> bool
+    requires { ⌜ (length (now widths) ≡ length (now rules)) × (low + total (now widths) < 64) ⌝ }
+    ensures { λ r. ⌜ r ≡ ruled low (now (widths .entry)) (now (rules .entry)) word ⌝ }
+{
+    let mut at = low;
+    let mut i = 0;
+    while i < widths.len() {
+        let width = widths[i];
+        if !keeps(rules[i], field(word, at, width)) {
+            return false;
+        }
+        at += width;
+        i += 1;
+    }
+    word >> at == 0
+}
+
+// A word that was packed, or 0 where a value did not fit.
+pub struct Packed {
+    pub fits: bool,
+    pub word: u64,
+}
+
+// The values put side by side above the `low` bits of a word, if each fits its width and keeps its rule.
+pub fn pack(word: u64, low: u32, widths: &[u32], rules: &[u64], values: &[u64]) -> Packed
+    requires { ⌜ (word < 2 ^ low) × (low + total (now widths) < 64) × (length (now widths) ≡ length (now rules)) × (length (now widths) ≡ length (now values)) ⌝ }
+    ensures { λ r. ⌜ r ≡ packedOf word low (now (widths .entry)) (now (rules .entry)) (now (values .entry)) ⌝ }
+{
+    let mut packed = word;
+    let mut at = low;
+    let mut i = 0;
+    while i < widths.len() {
+        let width = widths[i];
+        let value = values[i];
+        if !is_fitting(width, rules[i], value) {
+            return Packed {
+                fits: false,
+                word: 0,
+            };
+        }
+        packed = place(packed, at, width, value);
+        at += width;
+        i += 1;
+    }
+    Packed {
+        fits: true,
+        word: packed,
+    }
+}
+
+fn is_fitting(width: u32, rule: u64, value: u64) -> bool
+    requires { ⌜ width < 64 ⌝ }
+    ensures { λ r. ⌜ r ≡ both (ltb value (2 ^ width)) (ruleAllows rule value) ⌝ }
+{
+    if value >> width != 0 {
+        return false;
+    }
+    keeps(rule, value)
 }
