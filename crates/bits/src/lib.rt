@@ -7,7 +7,8 @@ ghost use lib.Signed.{mag};
 ghost use Rattle.bits.specs.Numbers.{fieldOf, placedOf};
 ghost use Rattle.bits.specs.Octets.{bitAt};
 ghost use lib.Dec.{ltb};
-ghost use Rattle.bits.specs.Tests.{both};
+ghost use Rattle.bits.specs.Tests.{pick, both};
+ghost use Rattle.bits.specs.Layout.{bit};
 ghost use Rattle.bits.specs.Twos.{signedOf, unsignedOf};
 ghost use Rattle.bits.specs.Rules.{ruleAllows, total, ruled, packedOf};
 
@@ -62,6 +63,25 @@ pub fn unsigned(z: i16, sign: u64) -> u64
 {
     let m = magnitude(z);
     if z < 0 { sign * 2 - 1 - m } else { m }
+}
+
+// The bits of a signed field, or a number that is too wide for it where z is out of its range.
+pub fn signed_bits(z: i16, sign: u64) -> u64
+    requires { ⌜ sign ≤ 32768 ⌝ }
+    ensures { λ r. ⌜ r ≡ pick (ltb (mag z) sign) (unsignedOf sign z) (sign * 2) ⌝ }
+{
+    if magnitude(z) < sign {
+        unsigned(z, sign)
+    } else {
+        sign * 2
+    }
+}
+
+// A yes or no as a bit.
+pub fn bit_of(yes: bool) -> u64
+    ensures { λ r. ⌜ r ≡ bit yes ⌝ }
+{
+    if yes { 1 } else { 0 }
 }
 
 // A rule from here on is the number that a field always is; below, it has a one for each code that is not used.
