@@ -10,8 +10,8 @@ ghost use Rattle.bits.specs.Layout.{split, allowed, bit, writeAs, signed};
 ghost use Rattle.bits.specs.Twos.{signedOf};
 ghost use Rattle.bits.specs.Rules.{rawOf};
 ghost use Rattle.message.specs.Layouts.{labelOf, layoutOf, iffLayout, trackLayout, amplifyingLayout, strobeLayout};
-ghost use Rattle.message.specs.Messages.{modeOf, presenceOf, codeOf, modeKept, modesKept, iffFrom, iffParts, trackFrom, trackParts, amplifyingFrom, amplifyingParts, strobeFrom, strobeParts, kindOf};
-ghost use Rattle.message.specs.Codec.{labelledOf, contentKept, messageIn, contentOf, encodedOf, padded, tableOf, valuesOf};
+ghost use Rattle.message.specs.Messages.{modeOf, presenceOf, codeOf, modeKept, modesKept, iffFrom, iffParts, trackFrom, trackParts, amplifyingFrom, amplifyingParts, strobeFrom, strobeParts, kindOf, keptOf};
+ghost use Rattle.message.specs.Codec.{labelledOf, messageIn, contentOf, encodedOf, padded, tableOf, valuesOf};
 use bits::Packed;
 use units::AltSteps;
 use units::LinkSteps;
@@ -477,4 +477,85 @@ fn values(m: Message) -> [u64; 13]
         Message::S8(t) => write_track(t),
         Message::S8Plus(t) => write_track(t),
     }
+}
+
+// ---- one word to one message and back
+
+// Whether a word above its label is as the kind's layout has it.
+fn is_laid_out(k: Kind, word: u64) -> bool
+    ensures { λ r. ⌜ r ≡ allowed 6 (layoutOf k) word ⌝ }
+{
+    let table = layout(k);
+    let count = table.count;
+    let widths = table.widths;
+    let rules = table.rules;
+    bits::is_allowed(word, 6, &widths[0..count], &rules[0..count])
+}
+
+fn is_mode_kept(present: u64, code: u64) -> bool
+    ensures { λ r. ⌜ r ≡ modeKept (eqb present 1) code ⌝ }
+{
+    if present == 1 { true } else { code == 0 }
+}
+
+// An absent mode's code bits are zero.
+fn are_modes_kept(word: u64) -> bool
+    ensures { λ r. ⌜ r ≡ modesKept (split 6 iffLayout word) ⌝ }
+{
+    if !is_mode_kept(bits::field(word, 26, 1), bits::field(word, 8, 12)) {
+        return false;
+    }
+    if !is_mode_kept(bits::field(word, 24, 1), bits::field(word, 30, 5)) {
+        return false;
+    }
+    is_mode_kept(bits::field(word, 25, 1), bits::field(word, 37, 12))
+}
+
+// What a kind asks beyond its fields.
+fn is_kept(k: Kind, word: u64) -> bool
+    ensures { λ r. ⌜ r ≡ keptOf k (split 6 (layoutOf k) word) ⌝ }
+{
+    match k {
+        Kind::Blank => true,
+        Kind::S0 => true,
+        Kind::S3 => are_modes_kept(word),
+        Kind::S4 => true,
+        Kind::S4Plus => true,
+        Kind::S5 => true,
+        Kind::S6 => true,
+        Kind::S8 => true,
+        Kind::S8Plus => true,
+    }
+}
+
+// The content of a word of a known kind.
+pub fn read_content(k: Kind, word: u64) -> Content
+    ensures { λ r. ⌜ r ≡ contentOf k word ⌝ }
+{
+    if !is_laid_out(k, word) {
+        return Content::Bad;
+    }
+    if !is_kept(k, word) {
+        return Content::Bad;
+    }
+    Content::Good(read_message(k, word))
+}
+
+// The word of a message, if each value fits its field.
+pub fn encode(m: Message) -> Packed
+    ensures { λ r. ⌜ r ≡ encodedOf m ⌝ }
+{
+    let k = kind_of(m);
+    let table = layout(k);
+    let count = table.count;
+    let widths = table.widths;
+    let rules = table.rules;
+    let numbers = values(m);
+    bits::pack(
+        label(k),
+        6,
+        &widths[0..count],
+        &rules[0..count],
+        &numbers[0..count],
+    )
 }

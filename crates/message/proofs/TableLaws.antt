@@ -1,0 +1,123 @@
+-- The kinds' tables are lawful: as long as they say, 43 bits wide, with few codes. Assumes nothing.
+use mathlib.Core.Path.{_≡_, refl, sym, ap, ap₂, _∙_}
+use mathlib.Core.Bool.{Bool, true, false}
+use mathlib.Core.List.{List, [], _∷_}
+use Prim.Native.Nat.{ℕ, zero, suc, _-_, _≤_, _<_}
+use native.Mathlib.Omega.{arith}
+use native.Mathlib.Nat.{le-of-suc-le-suc, not-suc-le-zero}
+use borrow.Author.Tests.{leb-true, eqb-true}
+use lib.Dec.{T, leb, eqb}
+use lib.ListN.{length, take, drop}
+use Rattle.bits.specs.Tests.{both}
+use Rattle.bits.specs.Layout.{Field, Values}
+use Rattle.bits.specs.Rules.{widthsOf, rulesOf, rawOf, total}
+use Rattle.message.specs.Layouts.{labelOf, layoutOf}
+use Rattle.message.specs.Messages.{kindOf, partsOf}
+use Rattle.message.specs.Codec.{padded, tableOf, valuesOf}
+use Rattle.message.specs.declared.Kind.{Kind}
+use Rattle.message.specs.declared.Table.{Table}
+use Rattle.message.specs.declared.Message.{Message}
+use Rattle.message.specs.declared.Kind.the-variants.{Blank, S0, S3, S4, S4Plus, S5, S6, S8, S8Plus}
+use Rattle.bits.proofs.TestLaws.{both-true, to-T}
+use Rattle.bits.proofs.RuleLaws.{allFew}
+
+-- what is behind the last field is cut off again
+pub cut : (n : ℕ) (xs : List ℕ) → length xs ≤ n → take (length xs) (padded n xs) ≡ xs
+cut n [] h = refl
+cut zero (x ∷ xs) h = absurd (not-suc-le-zero h)
+cut (suc n) (x ∷ xs) h = ap (λ (l : List ℕ). x ∷ l) (cut n xs (le-of-suc-le-suc h))
+
+pub length-widths : (fs : List Field) → length (widthsOf fs) ≡ length fs
+length-widths [] = refl
+length-widths (f ∷ fs) = ap suc (length-widths fs)
+
+pub length-rules : (fs : List Field) → length (rulesOf fs) ≡ length fs
+length-rules [] = refl
+length-rules (f ∷ fs) = ap suc (length-rules fs)
+
+pub length-raw : (fs : List Field) (vs : Values fs) → length (rawOf fs vs) ≡ length fs
+length-raw [] vs = refl
+length-raw (f ∷ fs) vs = ap suc (length-raw fs (vs .1))
+
+abbrev lawful : List Field → Bool
+lawful fs = both (leb (length fs) 13) (both (eqb (total (widthsOf fs)) 43) (allFew fs))
+
+-- a line for each kind
+laid : (k : Kind) → lawful (layoutOf k) ≡ true
+laid Blank = refl
+laid S0 = refl
+laid S3 = refl
+laid S4 = refl
+laid S4Plus = refl
+laid S5 = refl
+laid S6 = refl
+laid S8 = refl
+laid S8Plus = refl
+
+pub short : (k : Kind) → length (layoutOf k) ≤ 13
+short k = leb-true _ _ (both-true {a = leb (length (layoutOf k)) 13} (laid k) .0)
+
+pub wide : (k : Kind) → total (widthsOf (layoutOf k)) ≡ 43
+wide k = eqb-true _ _ (both-true {a = eqb (total (widthsOf (layoutOf k))) 43} (both-true {a = leb (length (layoutOf k)) 13} (laid k) .1) .0)
+
+pub few : (k : Kind) → T (allFew (layoutOf k))
+few k = to-T (both-true {a = eqb (total (widthsOf (layoutOf k))) 43} (both-true {a = leb (length (layoutOf k)) 13} (laid k) .1) .1)
+
+pub label-lt : (k : Kind) → labelOf k < 64
+label-lt k = go (labelled k)
+  where
+    labelled : (k : Kind) → leb (suc (labelOf k)) 64 ≡ true
+    labelled Blank = refl
+    labelled S0 = refl
+    labelled S3 = refl
+    labelled S4 = refl
+    labelled S4Plus = refl
+    labelled S5 = refl
+    labelled S6 = refl
+    labelled S8 = refl
+    labelled S8Plus = refl
+
+    go : leb (suc (labelOf k)) 64 ≡ true → labelOf k < 64
+    go e = leb-true _ _ e
+
+-- ---- the part of a table that the code hands on
+
+length-padded : (n : ℕ) (xs : List ℕ) → length (padded n xs) ≡ n
+length-padded zero xs = refl
+length-padded (suc n) [] = ap suc (length-padded n [])
+length-padded (suc n) (x ∷ xs) = ap suc (length-padded n xs)
+
+-- numbers of a kind's fields, padded to thirteen
+module _ (k : Kind) (count : ℕ) (l xs : List ℕ) (many : count ≡ length (layoutOf k)) (full : l ≡ padded 13 xs) (size : length xs ≡ length (layoutOf k)) where
+  pub part-is : take (count - 0) l ≡ xs
+  part-is =
+      let e : count - 0 ≡ length xs = omega arith in
+      ap₂ take e full ∙ cut 13 xs (omega (arith, short k))
+
+  pub part-ends : count ≤ length l
+  part-ends = omega (arith, short k, ap length full ∙ length-padded 13 xs)
+
+module _ (t : Table) (k : Kind) (e : t ≡ tableOf (layoutOf k)) where
+  counted : t .count ≡ length (layoutOf k)
+  counted = ap (λ (x : Table). x .count) e
+
+  pub widths-are : take (t .count - 0) (t .widths) ≡ widthsOf (layoutOf k)
+  widths-are = part-is k (t .count) (t .widths) (widthsOf (layoutOf k)) counted (ap (λ (x : Table). x .widths) e) (length-widths (layoutOf k))
+
+  pub widths-end : t .count ≤ length (t .widths)
+  widths-end = part-ends k (t .count) (t .widths) (widthsOf (layoutOf k)) counted (ap (λ (x : Table). x .widths) e) (length-widths (layoutOf k))
+
+  pub rules-are : take (t .count - 0) (t .rules) ≡ rulesOf (layoutOf k)
+  rules-are = part-is k (t .count) (t .rules) (rulesOf (layoutOf k)) counted (ap (λ (x : Table). x .rules) e) (length-rules (layoutOf k))
+
+  pub rules-end : t .count ≤ length (t .rules)
+  rules-end = part-ends k (t .count) (t .rules) (rulesOf (layoutOf k)) counted (ap (λ (x : Table). x .rules) e) (length-rules (layoutOf k))
+
+module _ (t : Table) (m : Message) (e : t ≡ tableOf (layoutOf (kindOf m))) (l : List ℕ) (full : l ≡ valuesOf m) where
+  pub values-are : take (t .count - 0) l ≡ rawOf (layoutOf (kindOf m)) (partsOf m)
+  values-are =
+      part-is (kindOf m) (t .count) l (rawOf (layoutOf (kindOf m)) (partsOf m)) (counted t (kindOf m) e) full (length-raw (layoutOf (kindOf m)) (partsOf m))
+
+  pub values-end : t .count ≤ length l
+  values-end =
+      part-ends (kindOf m) (t .count) l (rawOf (layoutOf (kindOf m)) (partsOf m)) (counted t (kindOf m) e) full (length-raw (layoutOf (kindOf m)) (partsOf m))

@@ -1,0 +1,14 @@
+-- `message::is_mode_kept` meets its contract. Assumes nothing.
+use mathlib.Core.Path.{_≡_, refl, sym, ap, ap₂, _∙_}
+use borrow.Author.Tests.{eq-eqb, ne-eqb}
+use Rattle.message.proofs.is_mode_kept.Statement.{statement}
+use Rattle.message.proofs.is_mode_kept.Tie as tie
+
+returns : tie.Need-returns
+returns c = rw (eq-eqb _ _ (c .if1 .taken))
+
+returns-2 : tie.Need-returns-2
+returns-2 c = rw (ne-eqb _ _ (c .if1 .left))
+
+pub is-mode-kept-spec : {M : Type 1} → statement M
+is-mode-kept-spec = tie.close (tie.spec returns returns-2)
