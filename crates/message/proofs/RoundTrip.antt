@@ -1,0 +1,231 @@
+-- The two round trips of a message: what is read is written as it was, and what is written is read as it was. Assumes nothing.
+use mathlib.Core.Path.{_≡_, refl, sym, ap, ap₂, subst, _∙_}
+use mathlib.Core.Bool.{Bool, true, false}
+use mathlib.Core.List.{List, [], _∷_}
+use Prim.Native.Nat.{ℕ, _+_, _*_, _/_, _%_, _^_, _<_}
+use native.Mathlib.Nat.{add-assoc, add-zero, div-one, mod-lt, zero-mul}
+use native.Mathlib.Omega.{arith}
+use borrow.Author.Tests.{eq-eqb, eqb-true}
+use lib.Dec.{T, eqb, eqb→eq}
+use lib.Pow.{pow-pos}
+use lib.Pow.{split as split-pow}
+use Rattle.bits.specs.Tests.{pick, both}
+use Rattle.bits.specs.Numbers.{fieldOf}
+use Rattle.bits.specs.Layout.{Field, fixed, widthOf, Values, allows, allowed, split, fits, join}
+use Rattle.bits.specs.Rules.{widthsOf, total}
+use Rattle.bits.specs.declared.Packed.{Packed}
+use Rattle.message.specs.Layouts.{labelOf, layoutOf, wholeOf, allKinds, iffLayout}
+use Rattle.message.specs.Messages.{modeOf, presenceOf, codeOf, modeKept, modesKept, iffFrom, iffParts, madeOf, kindOf, partsOf, keptOf}
+use Rattle.message.specs.Codec.{kindFrom, labelledOf, contentKept, messageIn, contentOf, encodedOf}
+use Rattle.message.specs.declared.Kind.{Kind}
+use Rattle.message.specs.declared.Kind.the-variants.{Blank, S0, S3, S4, S4Plus, S5, S6, S8, S8Plus}
+use Rattle.message.specs.declared.Mode.{Mode}
+use Rattle.message.specs.declared.Mode.the-variants.{Absent, Present}
+use Rattle.message.specs.declared.Iff.{Iff}
+use Rattle.message.specs.declared.Message.{Message}
+use Rattle.message.specs.declared.Message.the-variants as m
+use Rattle.message.specs.declared.Labelled.{Labelled}
+use Rattle.message.specs.declared.Labelled.the-variants.{Known, Unknown}
+use Rattle.message.specs.declared.Content.{Content}
+use Rattle.message.specs.declared.Content.the-variants.{Good, Bad}
+use Rattle.bits.proofs.TestLaws.{to-T, from-T, both-true, both-left, both-right, both-intro}
+use Rattle.bits.proofs.LayoutLaws.{join-split, fits-split, split-join, allowed-join, first-join}
+use Rattle.message.proofs.TableLaws.{wide}
+
+-- ---- modes
+
+code-mode : (p : Bool) (n : ℕ) → T (modeKept p n) → codeOf (modeOf p n) ≡ n
+code-mode true n t = refl
+code-mode false n t = sym (eqb→eq n 0 t)
+
+presence-mode : (p : Bool) (n : ℕ) → presenceOf (modeOf p n) ≡ p
+presence-mode true n = refl
+presence-mode false n = refl
+
+mode-parts : (o : Mode) → modeOf (presenceOf o) (codeOf o) ≡ o
+mode-parts Absent = refl
+mode-parts (Present n) = refl
+
+mode-kept : (o : Mode) → T (modeKept (presenceOf o) (codeOf o))
+mode-kept Absent = tt
+mode-kept (Present n) = tt
+
+iff-parts-from : (vs : Values iffLayout) → T (modesKept vs) → iffParts (iffFrom vs) ≡ vs
+iff-parts-from = λ (s, (c3, (r, (em, (p1, (p2, (p3, (v, (s2, (c1, (s3, (c2, e)))))))))))) t.
+    let t3 : T (modeKept p3 c3) = both-left (modeKept p3 c3) (both (modeKept p1 c1) (modeKept p2 c2)) t in
+    let u : T (both (modeKept p1 c1) (modeKept p2 c2)) = both-right (modeKept p3 c3) (both (modeKept p1 c1) (modeKept p2 c2)) t in
+    let t1 : T (modeKept p1 c1) = both-left (modeKept p1 c1) (modeKept p2 c2) u in
+    let t2 : T (modeKept p2 c2) = both-right (modeKept p1 c1) (modeKept p2 c2) u in
+    λ i. (tt, (code-mode p3 c3 t3 i, (r, (em, (presence-mode p1 c1 i, (presence-mode p2 c2 i, (presence-mode p3 c3 i, (v, (tt, (code-mode p1 c1 t1 i, (tt, (code-mode p2 c2 t2 i, tt))))))))))))
+
+iff-from-parts : (x : Iff) → iffFrom (iffParts x) ≡ x
+iff-from-parts x = λ i. record {
+  mode3a = mode-parts (x .mode3a) i;
+  request = x .request;
+  emergency = x .emergency;
+  validation = x .validation;
+  mode1 = mode-parts (x .mode1) i;
+  mode2 = mode-parts (x .mode2) i;
+}
+
+-- ---- a line for each kind: all that is said of the kinds one by one
+
+made-parts : (msg : Message) → madeOf (kindOf msg) (partsOf msg) ≡ msg
+made-parts m.Blank = refl
+made-parts m.S0 = refl
+made-parts (m.S3 x) = ap m.S3 (iff-from-parts x)
+made-parts (m.S4 t) = refl
+made-parts (m.S4Plus t) = refl
+made-parts (m.S5 a) = refl
+made-parts (m.S6 s) = refl
+made-parts (m.S8 t) = refl
+made-parts (m.S8Plus t) = refl
+
+kept-parts : (msg : Message) → T (keptOf (kindOf msg) (partsOf msg))
+kept-parts m.Blank = tt
+kept-parts m.S0 = tt
+kept-parts (m.S3 x) =
+    both-intro (modeKept (presenceOf (x .mode3a)) (codeOf (x .mode3a)))
+    (both (modeKept (presenceOf (x .mode1)) (codeOf (x .mode1))) (modeKept (presenceOf (x .mode2)) (codeOf (x .mode2))))
+    (mode-kept (x .mode3a))
+    (both-intro (modeKept (presenceOf (x .mode1)) (codeOf (x .mode1))) (modeKept (presenceOf (x .mode2)) (codeOf (x .mode2)))
+    (mode-kept (x .mode1)) (mode-kept (x .mode2)))
+kept-parts (m.S4 t) = tt
+kept-parts (m.S4Plus t) = tt
+kept-parts (m.S5 a) = tt
+kept-parts (m.S6 s) = tt
+kept-parts (m.S8 t) = tt
+kept-parts (m.S8Plus t) = tt
+
+-- the word of a kind's values, if they fit
+abbrev packedAs : (k : Kind) → Values (layoutOf k) → Packed
+packedAs k vs =
+    pick (fits (wholeOf k) (tt, vs)) (record { fits = true; word = join 0 (wholeOf k) (tt, vs) }) (record { fits = false; word = 0 })
+
+encoded-made : (k : Kind) (vs : Values (layoutOf k)) → T (keptOf k vs) → encodedOf (madeOf k vs) ≡ packedAs k vs
+unfolding encodedOf
+encoded-made Blank vs t = refl
+encoded-made S0 vs t = refl
+encoded-made S3 vs t = ap (packedAs S3) (iff-parts-from vs t)
+encoded-made S4 vs t = refl
+encoded-made S4Plus vs t = refl
+encoded-made S5 vs t = refl
+encoded-made S6 vs t = refl
+encoded-made S8 vs t = refl
+encoded-made S8Plus vs t = refl
+
+labelled : (k : Kind) → kindFrom allKinds (labelOf k) ≡ Known k
+labelled Blank = refl
+labelled S0 = refl
+labelled S3 = refl
+labelled S4 = refl
+labelled S4Plus = refl
+labelled S5 = refl
+labelled S6 = refl
+labelled S8 = refl
+labelled S8Plus = refl
+
+kind-made : (k : Kind) (vs : Values (layoutOf k)) → kindOf (madeOf k vs) ≡ k
+kind-made Blank vs = refl
+kind-made S0 vs = refl
+kind-made S3 vs = refl
+kind-made S4 vs = refl
+kind-made S4Plus vs = refl
+kind-made S5 vs = refl
+kind-made S6 vs = refl
+kind-made S8 vs = refl
+kind-made S8Plus vs = refl
+
+-- ---- labels
+
+label-from : (ks : List Kind) (n : ℕ) (k : Kind) → kindFrom ks n ≡ Known k → n ≡ labelOf k
+label-from [] n k p = let z : _≡_ {A = ℕ} 0 1 = cc in absurd (omega arith)
+label-from (x ∷ ks) n k p = go (eqb n (labelOf x)) refl p (label-from ks n k)
+  where
+    go : (b : Bool) → eqb n (labelOf x) ≡ b → pick b (Known x) (kindFrom ks n) ≡ Known k → (kindFrom ks n ≡ Known k → n ≡ labelOf k) → n ≡ labelOf k
+    go true e q ih = let y : x ≡ k = cc in eqb-true n (labelOf x) e ∙ ap labelOf y
+    go false e q ih = ih q
+
+whole : (k : Kind) (w : ℕ) → labelledOf w ≡ Known k → T (allowed 6 (layoutOf k) w) → T (allowed 0 (wholeOf k) w)
+whole k w l g =
+    both-intro (eqb (w / 1 % 64) (labelOf k)) (allowed 6 (layoutOf k) w)
+    (to-T (eq-eqb (w / 1 % 64) (labelOf k) (ap (λ (n : ℕ). n % 64) (div-one w) ∙ label-from allKinds (w % 64) k l))) g
+
+-- ---- read, then written
+
+-- a word that was packed
+abbrev pub packed : ℕ → Packed
+packed w = record { fits = true; word = w }
+
+module _ (k : Kind) (w : ℕ) (msg : Message) where
+  written : (b : Bool) → labelledOf w ≡ Known k → contentKept k w ≡ b → pick b (Good (messageIn k w)) Bad ≡ Good msg → encodedOf msg ≡ packed w
+  written false l q p = let z : _≡_ {A = ℕ} 0 1 = cc in absurd (omega arith)
+  written true l q p =
+      let t = both-true {a = allowed 6 (layoutOf k) w} {b = keptOf k (split 6 (layoutOf k) w)} q in
+      let g : T (allowed 0 (wholeOf k) w) = whole k w l (to-T (t .0)) in
+      let s : messageIn k w ≡ msg = cc in
+      let f : fits (wholeOf k) (split 0 (wholeOf k) w) ≡ true = from-T (fits (wholeOf k) (split 0 (wholeOf k) w)) (fits-split (wholeOf k) w g) in
+      sym (ap encodedOf s)
+      ∙ encoded-made k (split 6 (layoutOf k) w) (to-T (t .1))
+      ∙ ap₂ (λ (b : Bool) (n : ℕ). pick b (packed n) (record { fits = false; word = 0 })) f (join-split (wholeOf k) w g)
+
+  -- what a word holds is written as that word
+  pub read-written : labelledOf w ≡ Known k → contentOf k w ≡ Good msg → encodedOf msg ≡ packed w
+  unfolding contentOf
+  read-written l p = written (contentKept k w) l refl p
+
+  -- and is of the word's kind
+  pub kind-read : contentOf k w ≡ Good msg → kindOf msg ≡ k
+  unfolding contentOf
+  kind-read p = go (contentKept k w) p
+    where
+      go : (b : Bool) → pick b (Good (messageIn k w)) Bad ≡ Good msg → kindOf msg ≡ k
+      go true q = let s : messageIn k w ≡ msg = cc in sym (ap kindOf s) ∙ kind-made k (split 6 (layoutOf k) w)
+      go false q = let z : _≡_ {A = ℕ} 0 1 = cc in absurd (omega arith)
+
+-- ---- written, then read
+
+-- the bits of a layout are all that a word has
+allowed-lt : (at : ℕ) (fs : List Field) (w : ℕ) → T (allowed at fs w) → w < 2 ^ (at + total (widthsOf fs))
+allowed-lt at [] w t =
+    let e : w / 2 ^ at * 2 ^ at ≡ 0 = ap (λ (n : ℕ). n * 2 ^ at) (eqb→eq _ 0 t) ∙ zero-mul (2 ^ at) in
+    let h : w < 2 ^ at = omega (arith, split-pow w at, mod-lt w (pow-pos at)) in
+    subst (λ (n : ℕ). w < 2 ^ n) (sym (add-zero at)) h
+allowed-lt at (f ∷ fs) w t =
+    subst (λ (n : ℕ). w < 2 ^ n) (add-assoc at (widthOf f) (total (widthsOf fs)))
+    (allowed-lt (at + widthOf f) fs w (both-right (allows f (fieldOf w at (widthOf f))) (allowed (at + widthOf f) fs w) t))
+
+-- what is known of the word of a message
+pub record Read (msg : Message) (w : ℕ) : Type 0 where
+  pub label : labelledOf w ≡ Known (kindOf msg)
+  pub content : contentOf (kindOf msg) w ≡ Good msg
+  pub short : w < 2 ^ 49
+
+module _ (msg : Message) (w : ℕ) where
+  read : (b : Bool) → fits (wholeOf (kindOf msg)) (tt, partsOf msg) ≡ b
+      → pick b (packed (join 0 (wholeOf (kindOf msg)) (tt, partsOf msg))) (record { fits = false; word = 0 }) ≡ packed w → Read msg w
+  unfolding contentOf
+  read false q p = let z : false ≡ true = ap (λ (x : Packed). x .fits) p in absurd (to-T z)
+  read true q p =
+      let k : Kind = kindOf msg in
+      let vs : Values (wholeOf k) = (tt, partsOf msg) in
+      let f : T (fits (wholeOf k) vs) = to-T q in
+      let j : join 0 (wholeOf k) vs ≡ w = ap (λ (x : Packed). x .word) p in
+      let g : T (allowed 0 (wholeOf k) w) = subst (λ (n : ℕ). T (allowed 0 (wholeOf k) n)) j (allowed-join (wholeOf k) vs f) in
+      let s : split 6 (layoutOf k) w ≡ partsOf msg =
+          ap (split 6 (layoutOf k)) (sym j) ∙ ap (λ (x : Values (wholeOf k)). x .1) (split-join (wholeOf k) vs f) in
+      let o : T (keptOf k (split 6 (layoutOf k) w)) = subst (λ (x : Values (layoutOf k)). T (keptOf k x)) (sym s) (kept-parts msg) in
+      let a : T (allowed 6 (layoutOf k) w) = both-right (eqb (w / 1 % 64) (labelOf k)) (allowed 6 (layoutOf k) w) g in
+      record {
+        label = ap labelledOf (sym j) ∙ ap (kindFrom allKinds) (first-join (fixed 6 (labelOf k)) (layoutOf k) vs f) ∙ labelled k;
+        content =
+            ap (λ (b : Bool). pick b (Good (messageIn k w)) Bad)
+            (from-T (contentKept k w) (both-intro (allowed 6 (layoutOf k) w) (keptOf k (split 6 (layoutOf k) w)) a o))
+            ∙ ap Good (ap (madeOf k) s ∙ made-parts msg);
+        short = subst (λ (n : ℕ). w < 2 ^ (6 + n)) (wide k) (allowed-lt 6 (layoutOf k) w a);
+      }
+
+  -- the word of a message is read as that message
+  pub written-read : encodedOf msg ≡ packed w → Read msg w
+  unfolding encodedOf
+  written-read p = read (fits (wholeOf (kindOf msg)) (tt, partsOf msg)) refl p
