@@ -12,7 +12,7 @@ use lib.ListN.{length, getD}
 use Rattle.bits.specs.Tests.{pick, both, every}
 use Rattle.bits.specs.Numbers.{numOf}
 use Rattle.bits.specs.Octets.{bitAt}
-use Rattle.refusal.specs.Refusals.{badLength}
+use Rattle.refusal.specs.Refusals.{success, badLength}
 use Rattle.frame.specs.Frame.{startGood, marksGood, checksGood, columnOf, goodFrame, frameVerdict, verdictOf, frameAt}
 use Rattle.bits.proofs.TestLaws.{by-lt, both-true, every-at, every-ext}
 use Rattle.bits.proofs.NumberLaws.{num-ext, num-ones, sum-ext}
@@ -52,6 +52,14 @@ verdict-length image h = rw (ne-eqb (length image) 16 h)
 pub verdict-image : (image : List ℕ) → length image ≡ 16 → verdictOf image ≡ frameVerdict (bitAt image)
 unfolding verdictOf
 verdict-image image h = rw h
+
+pub verdict-size : (image : List ℕ) → verdictOf image ≡ success → length image ≡ 16
+unfolding verdictOf
+verdict-size image v = go (eqb (length image) 16) refl v
+  where
+    go : (t : Bool) → eqb (length image) 16 ≡ t → pick t (frameVerdict (bitAt image)) badLength ≡ success → length image ≡ 16
+    go true e q = eqb-true _ _ e
+    go false e q = absurd (omega arith)
 
 -- ---- frames with the same 128 bits are alike
 

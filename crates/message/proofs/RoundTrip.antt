@@ -213,7 +213,7 @@ module _ (msg : Message) (w : ℕ) where
       let j : join 0 (wholeOf k) vs ≡ w = ap (λ (x : Packed). x .word) p in
       let g : T (allowed 0 (wholeOf k) w) = subst (λ (n : ℕ). T (allowed 0 (wholeOf k) n)) j (allowed-join (wholeOf k) vs f) in
       let s : split 6 (layoutOf k) w ≡ partsOf msg =
-          ap (split 6 (layoutOf k)) (sym j) ∙ ap (λ (x : Values (wholeOf k)). x .1) (split-join (wholeOf k) vs f) in
+      ap (split 6 (layoutOf k)) (sym j) ∙ ap (λ (x : Values (wholeOf k)). x .1) (split-join (wholeOf k) vs f) in
       let o : T (keptOf k (split 6 (layoutOf k) w)) = subst (λ (x : Values (layoutOf k)). T (keptOf k x)) (sym s) (kept-parts msg) in
       let a : T (allowed 6 (layoutOf k) w) = both-right (eqb (w / 1 % 64) (labelOf k)) (allowed 6 (layoutOf k) w) g in
       record {

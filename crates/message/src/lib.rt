@@ -126,7 +126,21 @@ const BLANK: Table = Table {
 const TEST: Table = Table {
     count: 13,
     widths: [1, 6, 1, 6, 1, 6, 1, 6, 1, 6, 1, 6, 1],
-    rules: [FIXED, FIXED + 46, FIXED, FIXED + 46, FIXED, FIXED + 46, FIXED, FIXED + 46, FIXED, FIXED + 46, FIXED, FIXED + 46, FIXED],
+    rules: [
+        FIXED,
+        FIXED + 46,
+        FIXED,
+        FIXED + 46,
+        FIXED,
+        FIXED + 46,
+        FIXED,
+        FIXED + 46,
+        FIXED,
+        FIXED + 46,
+        FIXED,
+        FIXED + 46,
+        FIXED,
+    ],
 };
 
 // S.3: spare, Mode 3/A, request/reply without 1, 3, 5, 6 and 7, emergency, presence of Modes 1, 2 and 3/A, validation, spare, Mode 1, spare, Mode 2.

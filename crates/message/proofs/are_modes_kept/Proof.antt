@@ -42,8 +42,10 @@ returns-2 : tie.Need-returns-2
 returns-2 c =
     let n = c .before in
     let m = n .before .before .before .before in
-    rw (kept (m .before .before .field .ensures) (m .before .field2 .ensures) (m .is-mode-kept .ensures) ∙ not-false _ (n .before .before .before .if1 .left),
-    kept (n .before .before .field3 .ensures) (n .before .field4 .ensures) (n .is-mode-kept2 .ensures) ∙ not-true _ (c .if2 .taken))
+    rw (
+      kept (m .before .before .field .ensures) (m .before .field2 .ensures) (m .is-mode-kept .ensures) ∙ not-false _ (n .before .before .before .if1 .left),
+      kept (n .before .before .field3 .ensures) (n .before .field4 .ensures) (n .is-mode-kept2 .ensures) ∙ not-true _ (c .if2 .taken),
+    )
 
 field-requires-5 : tie.Need-field-requires-5
 field-requires-5 c κs = search needs
@@ -58,8 +60,10 @@ returns-3 : tie.Need-returns-3
 returns-3 c =
     let n = c .before .before .before .before in
     let m = n .before .before .before .before in
-    rw (kept (m .before .before .field .ensures) (m .before .field2 .ensures) (m .is-mode-kept .ensures) ∙ not-false _ (n .before .before .before .if1 .left),
-    kept (n .before .before .field3 .ensures) (n .before .field4 .ensures) (n .is-mode-kept2 .ensures) ∙ not-false _ (c .before .before .before .if2 .left))
+    rw (
+      kept (m .before .before .field .ensures) (m .before .field2 .ensures) (m .is-mode-kept .ensures) ∙ not-false _ (n .before .before .before .if1 .left),
+      kept (n .before .before .field3 .ensures) (n .before .field4 .ensures) (n .is-mode-kept2 .ensures) ∙ not-false _ (c .before .before .before .if2 .left),
+    )
     (sym (kept (c .before .before .field5 .ensures) (c .before .field6 .ensures) (c .is-mode-kept3 .ensures)))
 
 pub are-modes-kept-spec : {M : Type 1} → statement M

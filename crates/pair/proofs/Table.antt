@@ -1,0 +1,117 @@
+-- The pair table: its entries keep the four rules, 17 of 81 are yes. Assumes nothing.
+use mathlib.Core.Path.{_≡_, refl, sym, ap, ap₂, _∙_}
+use mathlib.Core.Bool.{Bool, true, false, not}
+use mathlib.Core.List.{List, [], _∷_}
+use Prim.Native.Nat.{ℕ, _+_, _*_, _/_, _%_, _<_}
+use native.Mathlib.Omega.{arith}
+use lib.Arith.{digits-div, digits-mod}
+use lib.ListN.{length, getD}
+use Rattle.bits.specs.Tests.{both, every}
+use Rattle.bits.specs.Numbers.{sumOf}
+use Rattle.bits.specs.Layout.{bit}
+use Rattle.message.specs.Layouts.{allKinds}
+use Rattle.message.specs.declared.Kind.{Kind}
+use Rattle.message.specs.declared.Kind.the-variants.{Blank, S0, S3, S4, S4Plus, S5, S6, S8, S8Plus}
+use Rattle.pair.specs.Pairs.{numberOf, isIn, pairOf}
+use Rattle.bits.proofs.TestLaws.{every-at}
+
+-- the table, as the code has it
+unfoldable pub pairs : List Bool
+pairs =
+    false ∷ false ∷ false ∷ false ∷ false ∷ false ∷ false ∷ false ∷ false
+    ∷ false ∷ true ∷ false ∷ false ∷ false ∷ false ∷ false ∷ false ∷ false
+    ∷ false ∷ false ∷ false ∷ false ∷ false ∷ false ∷ false ∷ false ∷ false
+    ∷ true ∷ false ∷ false ∷ true ∷ false ∷ false ∷ true ∷ true ∷ false
+    ∷ false ∷ false ∷ true ∷ false ∷ false ∷ true ∷ false ∷ false ∷ false
+    ∷ false ∷ false ∷ false ∷ false ∷ false ∷ false ∷ false ∷ false ∷ false
+    ∷ true ∷ false ∷ false ∷ true ∷ false ∷ false ∷ true ∷ true ∷ false
+    ∷ true ∷ false ∷ false ∷ true ∷ false ∷ false ∷ true ∷ true ∷ false
+    ∷ false ∷ false ∷ true ∷ false ∷ false ∷ true ∷ false ∷ false ∷ false ∷ []
+
+abbrev same : Bool → Bool → Bool
+same true b = b
+same false b = not b
+
+same-eq : (a b : Bool) → same a b ≡ true → a ≡ b
+same-eq true b e = sym e
+same-eq false true e = e
+same-eq false false e = refl
+
+-- ---- the table says what `pairOf` says, at each of its entries
+
+-- the kind of a row or column
+kindNumbered : ℕ → Kind
+kindNumbered n = getD allKinds n Blank
+
+numbered : (k : Kind) → kindNumbered (numberOf k) ≡ k
+unfolding kindNumbered
+numbered Blank = refl
+numbered S0 = refl
+numbered S3 = refl
+numbered S4 = refl
+numbered S4Plus = refl
+numbered S5 = refl
+numbered S6 = refl
+numbered S8 = refl
+numbered S8Plus = refl
+
+-- entry i stands in row i / 9 and column i % 9
+entryKept : ℕ → Bool
+entryKept i = same (getD pairs i false) (pairOf (kindNumbered (i / 9)) (kindNumbered (i % 9)))
+
+-- the whole table at once
+table-kept : every entryKept 81 ≡ true
+unfolding pairs entryKept kindNumbered pairOf every
+table-kept = refl
+
+pub pair-at : (a b : Kind) (i : ℕ) → i ≡ numberOf a * 9 + numberOf b → numberOf a < 9 → numberOf b < 9 → getD pairs i false ≡ pairOf a b
+unfolding entryKept
+pair-at a b i e ha hb =
+    let q : i / 9 ≡ numberOf a = ap (λ (n : ℕ). n / 9) e ∙ digits-div (numberOf a) hb in
+    let r : i % 9 ≡ numberOf b = ap (λ (n : ℕ). n % 9) e ∙ digits-mod (numberOf a) hb in
+    same-eq (getD pairs i false) (pairOf (kindNumbered (i / 9)) (kindNumbered (i % 9))) (every-at entryKept 81 table-kept i (omega arith))
+    ∙ ap₂ pairOf (ap kindNumbered q ∙ numbered a) (ap kindNumbered r ∙ numbered b)
+
+pub eighty-one : length pairs ≡ 81
+unfolding pairs
+eighty-one = refl
+
+pub seventeen : sumOf (λ i. bit (getD pairs i false)) 81 ≡ 17
+unfolding pairs sumOf
+seventeen = refl
+
+-- ---- the four rules in 01's words, each a test of all pairs
+
+abbrev everyKind : List Kind → (Kind → Bool) → Bool
+everyKind [] f = true
+everyKind (k ∷ ks) f = both (f k) (everyKind ks f)
+
+abbrev everyPair : (Kind → Kind → Bool) → Bool
+everyPair f = everyKind allKinds (λ first. everyKind allKinds (f first))
+
+abbrev implies : Bool → Bool → Bool
+implies true b = b
+implies false b = true
+
+-- S.0 is followed by S.0 only, and follows nothing else
+abbrev testRule : Kind → Kind → Bool
+testRule first second = implies (pairOf first second) (same (isIn first (S0 ∷ [])) (isIn second (S0 ∷ [])))
+
+-- S.4+ and S.8+ are followed by S.3 or S.5, and are never second
+abbrev plusRule : Kind → Kind → Bool
+plusRule first second =
+    both (implies (isIn first (S4Plus ∷ S8Plus ∷ [])) (same (pairOf first second) (isIn second (S3 ∷ S5 ∷ []))))
+    (implies (isIn second (S4Plus ∷ S8Plus ∷ [])) (not (pairOf first second)))
+
+-- S.4, S.6 and S.8 are followed by S.4, S.6, S.8 or Blank
+abbrev trackRule : Kind → Kind → Bool
+trackRule first second =
+    implies (isIn first (S4 ∷ S6 ∷ S8 ∷ [])) (same (pairOf first second) (isIn second (S4 ∷ S6 ∷ S8 ∷ Blank ∷ [])))
+
+-- Blank, S.3 and S.5 are never first
+abbrev neverFirst : Kind → Kind → Bool
+neverFirst first second = implies (isIn first (Blank ∷ S3 ∷ S5 ∷ [])) (not (pairOf first second))
+
+pub four-rules : everyPair (λ first second. both (testRule first second) (both (plusRule first second) (both (trackRule first second) (neverFirst first second)))) ≡ true
+unfolding pairOf
+four-rules = refl

@@ -1,0 +1,236 @@
+// Pairs: which messages may share a frame; opening an image and closing a pair.
+
+ghost use mathlib.Core.Path.{_≡_};
+ghost use Prim.Native.Nat.{_<_};
+ghost use lib.ListN.{length};
+ghost use Rattle.pair.specs.Pairs.{numberOf, pairOf};
+ghost use Rattle.pair.specs.Opening.{refusalOf, openContents, openWords, frameRefused, openOf};
+ghost use Rattle.pair.specs.Closing.{Closed};
+use message::Content;
+use message::Kind;
+use message::Labelled;
+use message::Message;
+use refusal::Refusal;
+
+// A row for each first kind, named behind its last entry, and a column for each second: Blank, S.0, S.3, S.4, S.4+, S.5, S.6, S.8, S.8+.
+const PAIRS: [bool; 81] = [
+    false,
+    false,
+    false,
+    false,
+    false,
+    false,
+    false,
+    false,
+    false, // Blank
+    false,
+    true,
+    false,
+    false,
+    false,
+    false,
+    false,
+    false,
+    false, // S.0
+    false,
+    false,
+    false,
+    false,
+    false,
+    false,
+    false,
+    false,
+    false, // S.3
+    true,
+    false,
+    false,
+    true,
+    false,
+    false,
+    true,
+    true,
+    false, // S.4
+    false,
+    false,
+    true,
+    false,
+    false,
+    true,
+    false,
+    false,
+    false, // S.4+
+    false,
+    false,
+    false,
+    false,
+    false,
+    false,
+    false,
+    false,
+    false, // S.5
+    true,
+    false,
+    false,
+    true,
+    false,
+    false,
+    true,
+    true,
+    false, // S.6
+    true,
+    false,
+    false,
+    true,
+    false,
+    false,
+    true,
+    true,
+    false, // S.8
+    false,
+    false,
+    true,
+    false,
+    false,
+    true,
+    false,
+    false,
+    false, // S.8+
+];
+
+// The row or column of a kind.
+fn number(k: Kind) -> usize
+    ensures { λ r. ⌜ (r ≡ numberOf k) × (r < 9) ⌝ }
+{
+    match k {
+        Kind::Blank => 0,
+        Kind::S0 => 1,
+        Kind::S3 => 2,
+        Kind::S4 => 3,
+        Kind::S4Plus => 4,
+        Kind::S5 => 5,
+        Kind::S6 => 6,
+        Kind::S8 => 7,
+        Kind::S8Plus => 8,
+    }
+}
+
+// Whether the second kind may follow the first in a frame.
+fn is_pair(first: Kind, second: Kind) -> bool
+    ensures { λ r. ⌜ r ≡ pairOf first second ⌝ }
+{
+    let at = number(first) * 9 + number(second);
+    PAIRS[at]
+}
+
+// What an image opens as.
+pub enum Opened {
+    Pair(Message, Message),
+    BadLength,
+    BadStart,
+    BadMark,
+    BadCheck,
+    FirstUnknown,
+    SecondUnknown,
+    BadPair,
+    FirstBad,
+    SecondBad,
+}
+
+impl Opened {
+    // The answer as a number and a place.
+    pub fn refusal(self) -> Refusal
+        ensures { λ r. ⌜ r ≡ refusalOf self ⌝ }
+    {
+        match self {
+            Opened::Pair(_, _) => Refusal::of(refusal::SUCCESS),
+            Opened::BadLength => Refusal::of(refusal::BAD_LENGTH),
+            Opened::BadStart => Refusal::of(refusal::BAD_START),
+            Opened::BadMark => Refusal::of(refusal::BAD_MARK),
+            Opened::BadCheck => Refusal::of(refusal::BAD_CHECK),
+            Opened::FirstUnknown => Refusal::at(refusal::UNKNOWN_LABEL, 1),
+            Opened::SecondUnknown => Refusal::at(refusal::UNKNOWN_LABEL, 2),
+            Opened::BadPair => Refusal::of(refusal::BAD_PAIR),
+            Opened::FirstBad => Refusal::at(refusal::BAD_CONTENT, 1),
+            Opened::SecondBad => Refusal::at(refusal::BAD_CONTENT, 2),
+        }
+    }
+}
+
+// Both contents, once the labels are known and the pair is in the table.
+fn open_contents(k: Kind, l: Kind, v: u64, w: u64) -> Opened
+    ensures { λ r. ⌜ r ≡ openContents k l v w ⌝ }
+{
+    let Content::Good(first) = message::read_content(k, v) else {
+        return Opened::FirstBad;
+    };
+    let Content::Good(second) = message::read_content(l, w) else {
+        return Opened::SecondBad;
+    };
+    Opened::Pair(first, second)
+}
+
+// The words of a good frame.
+fn open_words(v: u64, w: u64) -> Opened
+    ensures { λ r. ⌜ r ≡ openWords v w ⌝ }
+{
+    let Labelled::Known(k) = message::find_kind(v) else {
+        return Opened::FirstUnknown;
+    };
+    let Labelled::Known(l) = message::find_kind(w) else {
+        return Opened::SecondUnknown;
+    };
+    if is_pair(k, l) {
+        open_contents(k, l, v, w)
+    } else {
+        Opened::BadPair
+    }
+}
+
+// A frame that is not good, by the number of its verdict.
+fn refuse_frame(number: u8) -> Opened
+    ensures { λ r. ⌜ r ≡ frameRefused number ⌝ }
+{
+    if number == refusal::BAD_LENGTH {
+        return Opened::BadLength;
+    }
+    if number == refusal::BAD_START {
+        return Opened::BadStart;
+    }
+    if number == refusal::BAD_MARK {
+        return Opened::BadMark;
+    }
+    Opened::BadCheck
+}
+
+// Opens an image: 2, 3, 4, 5, 6 first message, 6 second, 7, 8 first, 8 second.
+pub fn open(image: &[u8]) -> Opened
+    ensures { λ r. ⌜ r ≡ openOf (now (image .entry)) ⌝ }
+{
+    let verdict = frame::verdict(image);
+    if verdict.number != refusal::SUCCESS {
+        return refuse_frame(verdict.number);
+    }
+    open_words(frame::word(image, 1), frame::word(image, 2))
+}
+
+// Closes a pair into a buffer of sixteen octets: 2, 7, 8 first, 8 second. On a refusal nothing is written.
+pub fn close(first: Message, second: Message, image: &mut [u8]) -> Refusal
+    ensures { λ r. ⌜ Closed first second (now (image .entry)) r (now (image .exit)) ⌝ }
+{
+    if image.len() != 16 {
+        return Refusal::of(refusal::BAD_LENGTH);
+    }
+    if !is_pair(message::kind_of(first), message::kind_of(second)) {
+        return Refusal::of(refusal::BAD_PAIR);
+    }
+    let v = message::encode(first);
+    if !v.fits {
+        return Refusal::at(refusal::BAD_CONTENT, 1);
+    }
+    let w = message::encode(second);
+    if !w.fits {
+        return Refusal::at(refusal::BAD_CONTENT, 2);
+    }
+    frame::put_image(v.word, w.word, image);
+    Refusal::of(refusal::SUCCESS)
+}
