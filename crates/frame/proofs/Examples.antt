@@ -12,17 +12,17 @@ use Rattle.refusal.specs.Refusals.{success, badLength, badStart, badMark, badCh
 use Rattle.frame.specs.Frame.{verdictOf, frameVerdict}
 use Rattle.frame.specs.Words.{wordOf}
 
-abbrev imageT : List ℕ
+abbrev pub imageT : List ℕ
 imageT = 0 ∷ replicate 14 0xba ++ 0xff ∷ []
 
-abbrev imageN : List ℕ
+abbrev pub imageN : List ℕ
 imageN = 0 ∷ replicate 14 0x80 ++ 0xff ∷ []
 
 -- P with its first and last octets as given
-abbrev imageP : ℕ → ℕ → List ℕ
+abbrev pub imageP : ℕ → ℕ → List ℕ
 imageP start last = start ∷ 0xc4 ∷ replicate 13 0x80 ++ last ∷ []
 
-abbrev imageQ : List ℕ
+abbrev pub imageQ : List ℕ
 imageQ = 0 ∷ 0xc6 ∷ replicate 6 0x80 ++ 0xa4 ∷ replicate 6 0x80 ++ 0x9d ∷ []
 
 -- an image, its verdict, and the words of its two messages

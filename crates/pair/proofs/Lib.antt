@@ -1,2 +1,4 @@
 pub mod Table
 mod PairLaws
+pub mod Demand2
+pub mod Examples
