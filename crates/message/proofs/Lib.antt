@@ -1,2 +1,3 @@
 mod TableLaws
+pub mod TextLaws
 pub mod RoundTrip

@@ -24,9 +24,7 @@ use Rattle.message.specs.declared.Mode.the-variants.{Absent, Present}
 use Rattle.message.specs.declared.Iff.{Iff}
 use Rattle.message.specs.declared.Message.{Message}
 use Rattle.message.specs.declared.Message.the-variants as m
-use Rattle.message.specs.declared.Labelled.{Labelled}
-use Rattle.message.specs.declared.Labelled.the-variants.{Known, Unknown}
-use Rattle.message.specs.declared.Content.{Content}
+use Rattle.message.specs.declared.Labelled.the-variants.{Known}
 use Rattle.message.specs.declared.Content.the-variants.{Good, Bad}
 use Rattle.bits.proofs.TestLaws.{to-T, from-T, both-true, both-left, both-right, both-intro}
 use Rattle.bits.proofs.LayoutLaws.{join-split, fits-split, split-join, allowed-join, first-join}

@@ -1,13 +1,13 @@
 -- The kinds' tables are lawful: as long as they say, 43 bits wide, with few codes. Assumes nothing.
-use mathlib.Core.Path.{_≡_, refl, sym, ap, ap₂, _∙_}
-use mathlib.Core.Bool.{Bool, true, false}
+use mathlib.Core.Path.{_≡_, refl, ap, ap₂, _∙_}
+use mathlib.Core.Bool.{Bool, true}
 use mathlib.Core.List.{List, [], _∷_}
 use Prim.Native.Nat.{ℕ, zero, suc, _-_, _≤_, _<_}
 use native.Mathlib.Omega.{arith}
 use native.Mathlib.Nat.{le-of-suc-le-suc, not-suc-le-zero}
 use borrow.Author.Tests.{leb-true, eqb-true}
 use lib.Dec.{T, leb, eqb}
-use lib.ListN.{length, take, drop}
+use lib.ListN.{length, take}
 use Rattle.bits.specs.Tests.{both}
 use Rattle.bits.specs.Layout.{Field, Values}
 use Rattle.bits.specs.Rules.{widthsOf, rulesOf, rawOf, total}

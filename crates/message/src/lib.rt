@@ -2,17 +2,21 @@
 
 ghost use mathlib.Core.Path.{_≡_};
 ghost use mathlib.Core.Bool.{true};
-ghost use Prim.Native.Nat.{_+_, _≤_, _<_};
+ghost use Prim.Native.Nat.{_+_, _<_};
 ghost use lib.Dec.{eqb};
-ghost use lib.ListN.{length};
-ghost use Rattle.bits.specs.Tests.{both};
 ghost use Rattle.bits.specs.Layout.{split, allowed, bit, writeAs, signed};
 ghost use Rattle.bits.specs.Twos.{signedOf};
 ghost use Rattle.bits.specs.Rules.{rawOf};
 ghost use Rattle.message.specs.Layouts.{labelOf, layoutOf, iffLayout, trackLayout, amplifyingLayout, strobeLayout};
 ghost use Rattle.message.specs.Messages.{modeOf, presenceOf, codeOf, modeKept, modesKept, iffFrom, iffParts, trackFrom, trackParts, amplifyingFrom, amplifyingParts, strobeFrom, strobeParts, kindOf, keptOf};
 ghost use Rattle.message.specs.Codec.{labelledOf, messageIn, contentOf, encodedOf, padded, tableOf, valuesOf};
+
+mod texts;
+
 use bits::Packed;
+use refusal::Refusal;
+pub use texts::track_number;
+pub use texts::track_text;
 use units::AltSteps;
 use units::LinkSteps;
 
@@ -104,6 +108,12 @@ pub enum Labelled {
 pub enum Content {
     Good(Message),
     Bad,
+}
+
+// The number that a text names, 0 where it is refused.
+pub struct Tracked {
+    pub refusal: Refusal,
+    pub number: u16,
 }
 
 // A kind's layout above the label: the width and the rule of each field, with zeros behind the last.

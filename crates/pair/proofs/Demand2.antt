@@ -1,19 +1,19 @@
 -- DEMAND 2: what opens closes to the same sixteen octets; a pair that closes opens again unchanged; and exactly the pairs of the
 -- table with legal content close. Assumes nothing.
-use mathlib.Core.Path.{_≡_, refl, sym, ap, ap₂, subst, _∙_}
+use mathlib.Core.Path.{_≡_, refl, sym, ap, ap₂, _∙_}
 use mathlib.Core.Bool.{Bool, true, false}
 use mathlib.Core.List.{List}
 use Prim.Native.Nat.{ℕ, _<_}
 use native.Mathlib.Omega.{arith}
 use borrow.Author.Tests.{eq-eqb, eqb-true}
-use lib.Dec.{T, eqb}
+use lib.Dec.{eqb}
 use lib.ListN.{length, getD}
 use Rattle.bits.specs.Tests.{pick}
 use Rattle.bits.specs.Octets.{bitAt}
 use Rattle.bits.specs.declared.Packed.{Packed}
 use Rattle.refusal.specs.Refusals.{numbered, numberedAt, success, badLength, badStart, badMark, badPair, badContent}
 use Rattle.refusal.specs.declared.Refusal.{Refusal}
-use Rattle.frame.specs.Frame.{goodFrame, verdictOf, frameVerdict}
+use Rattle.frame.specs.Frame.{goodFrame, verdictOf}
 use Rattle.frame.specs.Words.{wordOf, imageOf}
 use Rattle.message.specs.Messages.{kindOf}
 use Rattle.message.specs.Codec.{labelledOf, contentOf, encodedOf}
@@ -31,7 +31,7 @@ use Rattle.pair.specs.declared.Opened.the-variants.{Pair, BadLength, Bad
 use Rattle.bits.proofs.TestLaws.{clash}
 use Rattle.frame.proofs.FrameLaws.{verdict-good, verdict-size, verdict-image}
 use Rattle.frame.proofs.WordLaws.{image-good, length-image, image-first, image-second, image-back}
-use Rattle.message.proofs.RoundTrip.{packed, read-written, kind-read, Read, written-read}
+use Rattle.message.proofs.RoundTrip.{packed, read-written, kind-read, written-read}
 use Rattle.pair.proofs.PairLaws.{open-good, close-good, buffer-written}
 
 -- a pair is what is not refused
@@ -166,7 +166,7 @@ module _ (first second : Message) where
       let x : Words v w = record { paired = l .paired; one = packed-word first (l .one); two = packed-word second (l .two) } in
       let s = imageOf v w in
       let good : verdictOf s ≡ success =
-          verdict-image s (length-image v w) ∙ eqb-true _ _ (verdict-good (bitAt s) ∙ image-good v w) in
+      verdict-image s (length-image v w) ∙ eqb-true _ _ (verdict-good (bitAt s) ∙ image-good v w) in
       ap openOf (sym (buffer-written first second buffer e))
       ∙ open-good s good
       ∙ ap₂ openWords (image-first v w (written-read first v (x .one) .short)) (image-second v w (written-read second w (x .two) .short))

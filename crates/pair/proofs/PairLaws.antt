@@ -1,12 +1,10 @@
 -- What opening and closing answer, check by check. Assumes nothing.
-use mathlib.Core.Path.{_≡_, refl, sym, ap, _∙_}
-use mathlib.Core.Bool.{Bool, true, false}
+use mathlib.Core.Path.{_≡_}
+use mathlib.Core.Bool.{true, false}
 use mathlib.Core.List.{List}
 use Prim.Native.Nat.{ℕ}
-use borrow.Author.Tests.{eq-eqb, ne-eqb}
-use lib.Dec.{eqb}
+use borrow.Author.Tests.{ne-eqb}
 use lib.ListN.{length}
-use Rattle.bits.specs.Tests.{pick}
 use Rattle.bits.specs.Octets.{bitAt}
 use Rattle.refusal.specs.Refusals.{numbered, numberedAt, success, badLength, badPair, badContent}
 use Rattle.refusal.specs.declared.Refusal.{Refusal}

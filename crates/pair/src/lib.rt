@@ -2,7 +2,6 @@
 
 ghost use mathlib.Core.Path.{_≡_};
 ghost use Prim.Native.Nat.{_<_};
-ghost use lib.ListN.{length};
 ghost use Rattle.pair.specs.Pairs.{numberOf, pairOf};
 ghost use Rattle.pair.specs.Opening.{refusalOf, openContents, openWords, frameRefused, openOf};
 ghost use Rattle.pair.specs.Closing.{Closed};

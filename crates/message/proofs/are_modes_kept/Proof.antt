@@ -1,12 +1,10 @@
 -- `message::are_modes_kept` meets its contract. Assumes nothing.
-use mathlib.Core.Bool.{Bool, true, false}
-use mathlib.Core.Path.{_≡_, refl, sym, ap, ap₂, _∙_}
+use mathlib.Core.Bool.{Bool}
+use mathlib.Core.Path.{_≡_, sym, ap₂, _∙_}
 use Prim.Native.Nat.{ℕ}
 use borrow.Author.Needs.{needs}
 use borrow.Author.Tests.{not-true, not-false}
 use lib.Dec.{eqb}
-use Rattle.bits.specs.Numbers.{fieldOf}
-use Rattle.bits.specs.Tests.{both}
 use Rattle.message.specs.Messages.{modeKept}
 use Rattle.message.proofs.are_modes_kept.Statement.{statement}
 use Rattle.message.proofs.are_modes_kept.Tie as tie

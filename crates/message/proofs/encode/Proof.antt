@@ -1,21 +1,17 @@
 -- `message::encode` meets its contract. Assumes nothing.
-use mathlib.Core.Bool.{Bool, true, false}
-use mathlib.Core.List.{List}
-use mathlib.Core.Path.{_≡_, refl, sym, ap, ap₂, _∙_}
+use mathlib.Core.Bool.{true, false}
+use mathlib.Core.Path.{_≡_, refl, sym, ap, _∙_}
 use Prim.Native.Nat.{ℕ, _+_}
 use native.Mathlib.Omega.{arith}
 use borrow.Author.Needs.{needs}
 use borrow.Author.Tests.{lt-ltb, eq-eqb}
 use Rattle.bits.specs.Layout.{fits, join}
-use Rattle.bits.specs.Rules.{packedOf}
-use Rattle.bits.specs.Tests.{pick, both}
-use Rattle.bits.specs.declared.Packed.{Packed}
-use Rattle.message.specs.Codec.{encodedOf, tableOf, valuesOf}
+use Rattle.bits.specs.Tests.{pick}
+use Rattle.message.specs.Codec.{encodedOf, tableOf}
 use Rattle.message.specs.Layouts.{labelOf, layoutOf, wholeOf}
 use Rattle.message.specs.Messages.{kindOf, partsOf}
 use Rattle.message.specs.declared.Kind.{Kind}
 use Rattle.message.specs.declared.Message.{Message}
-use Rattle.message.specs.declared.Table.{Table}
 use Rattle.bits.proofs.RuleLaws.{packed-layout}
 use Rattle.message.proofs.TableLaws.{widths-are, widths-end, rules-are, rules-end, values-are, values-end, length-widths, length-rules, length-raw, wide, few, label-lt}
 use Rattle.message.proofs.encode.Statement.{statement}

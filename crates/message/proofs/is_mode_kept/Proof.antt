@@ -1,5 +1,4 @@
 -- `message::is_mode_kept` meets its contract. Assumes nothing.
-use mathlib.Core.Path.{_≡_, refl, sym, ap, ap₂, _∙_}
 use borrow.Author.Tests.{eq-eqb, ne-eqb}
 use Rattle.message.proofs.is_mode_kept.Statement.{statement}
 use Rattle.message.proofs.is_mode_kept.Tie as tie

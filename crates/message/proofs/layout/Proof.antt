@@ -1,5 +1,4 @@
 -- `message::layout` meets its contract. Assumes nothing.
-use mathlib.Core.Path.{_≡_, refl, sym, ap, _∙_}
 use borrow.Author.Needs.{needs}
 use Rattle.bits.specs.Numbers.{numOf}
 use Rattle.message.proofs.layout.Statement.{statement}

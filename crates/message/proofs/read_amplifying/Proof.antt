@@ -6,7 +6,6 @@ use lib.Dec.{eqb}
 use mir.Syntax.{w16}
 use mir.ValLaws.{toZ-ofZ}
 use Rattle.bits.specs.Twos.{signedOf}
-use Rattle.units.specs.declared.AltSteps.{AltSteps}
 use Rattle.message.proofs.read_amplifying.Statement.{statement}
 use Rattle.message.proofs.read_amplifying.Tie as tie
 

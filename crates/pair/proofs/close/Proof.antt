@@ -1,13 +1,10 @@
 -- `pair::close` meets its contract: the checks in turn. Assumes nothing.
-use mathlib.Core.Bool.{Bool, true, false}
-use mathlib.Core.List.{List}
-use mathlib.Core.Path.{_≡_, refl, sym, ap, ap₂, _∙_}
+use mathlib.Core.Path.{sym, ap, ap₂, _∙_}
 use native.Mathlib.Omega.{arith}
 use borrow.Author.Needs.{needs}
 use borrow.Author.Tests.{not-true, not-false}
 use Rattle.bits.specs.declared.Packed.{Packed}
 use Rattle.frame.specs.Words.{imageOf}
-use Rattle.message.specs.declared.Kind.{Kind}
 use Rattle.pair.specs.Pairs.{pairOf}
 use Rattle.pair.proofs.PairLaws.{close-length, close-pair, close-first, close-second, close-good, buffer-stays, buffer-written}
 use Rattle.pair.proofs.close.Statement.{statement}
@@ -58,7 +55,7 @@ at-requires-2 c κs = search needs
 returns-4 : tie.Need-returns-4
 returns-4 c =
     let e = close-second _ _ _ (c .before .before .before .before .before .before .before .before .before .before .before .if1 .left) (sym (c .before .before .before .before .before .before .before .before .is-pair .ensures ∙ ap₂ pairOf (c .before .before .before .before .before .before .before .before .before .before .kind-of .ensures) (c .before .before .before .before .before .before .before .before .before .kind-of2 .ensures)) ∙ not-false _ (c .before .before .before .before .before .before .before .if2 .left))
-        (sym (ap (λ (p : Packed). p .fits) (c .before .before .before .before .before .before .encode .ensures)) ∙ not-false _ (c .before .before .before .before .if3 .left)) (sym (ap (λ (p : Packed). p .fits) (c .before .before .before .encode2 .ensures)) ∙ not-true _ (c .before .if4 .taken)) in
+    (sym (ap (λ (p : Packed). p .fits) (c .before .before .before .before .before .before .encode .ensures)) ∙ not-false _ (c .before .before .before .before .if3 .left)) (sym (ap (λ (p : Packed). p .fits) (c .before .before .before .encode2 .ensures)) ∙ not-true _ (c .before .if4 .taken)) in
     (c .at2 .ensures ∙ sym e, buffer-stays _ _ _ _ e (λ q. omega arith))
 
 put-image-requires : tie.Need-put-image-requires
@@ -73,9 +70,10 @@ same-length c = search needs
 returns-5 : tie.Need-returns-5
 returns-5 c =
     let e = close-good _ _ _ (c .before .before .before .before .before .before .before .before .before .before .before .before .before .before .before .if1 .left) (sym (c .before .before .before .before .before .before .before .before .before .before .before .before .is-pair .ensures ∙ ap₂ pairOf (c .before .before .before .before .before .before .before .before .before .before .before .before .before .before .kind-of .ensures) (c .before .before .before .before .before .before .before .before .before .before .before .before .before .kind-of2 .ensures)) ∙ not-false _ (c .before .before .before .before .before .before .before .before .before .before .before .if2 .left))
-        (sym (ap (λ (p : Packed). p .fits) (c .before .before .before .before .before .before .before .before .before .before .encode .ensures)) ∙ not-false _ (c .before .before .before .before .before .before .before .before .if3 .left)) (sym (ap (λ (p : Packed). p .fits) (c .before .before .before .before .before .before .before .encode2 .ensures)) ∙ not-false _ (c .before .before .before .before .before .if4 .left)) in
-    (c .of3 .ensures ∙ sym e,
-     c .before .before .before .put-image .ensures ∙ ap₂ (λ (p q : Packed). imageOf (p .word) (q .word)) (c .before .before .before .before .before .before .before .before .before .before .encode .ensures) (c .before .before .before .before .before .before .before .encode2 .ensures) ∙ buffer-written _ _ _ e)
+    (sym (ap (λ (p : Packed). p .fits) (c .before .before .before .before .before .before .before .before .before .before .encode .ensures)) ∙ not-false _ (c .before .before .before .before .before .before .before .before .if3 .left)) (sym (ap (λ (p : Packed). p .fits) (c .before .before .before .before .before .before .before .encode2 .ensures)) ∙ not-false _ (c .before .before .before .before .before .if4 .left)) in (
+      c .of3 .ensures ∙ sym e,
+      c .before .before .before .put-image .ensures ∙ ap₂ (λ (p q : Packed). imageOf (p .word) (q .word)) (c .before .before .before .before .before .before .before .before .before .before .encode .ensures) (c .before .before .before .before .before .before .before .encode2 .ensures) ∙ buffer-written _ _ _ e,
+    )
 
 pub close-spec : {M : Type 1} → statement M
 close-spec =

@@ -1,8 +1,6 @@
 -- `pair::open` meets its contract. Assumes nothing.
-use mathlib.Core.Path.{_≡_, refl, sym, ap, ap₂, _∙_}
+use mathlib.Core.Path.{sym, ap, ap₂, _∙_}
 use borrow.Author.Needs.{needs}
-use Rattle.bits.specs.Octets.{bitAt}
-use Rattle.frame.specs.Words.{wordOf}
 use Rattle.pair.specs.Opening.{openWords}
 use Rattle.refusal.specs.declared.Refusal.{Refusal}
 use Rattle.frame.proofs.FrameLaws.{verdict-size}

@@ -1,5 +1,5 @@
 -- `pair::open_contents` meets its contract. Assumes nothing.
-use mathlib.Core.Path.{_≡_, refl, sym, ap, ap₂, _∙_}
+use mathlib.Core.Path.{sym, ap, ap₂, _∙_}
 use borrow.Author.Needs.{needs}
 use Rattle.message.specs.Codec.{contentOf}
 use Rattle.message.specs.declared.Content.{Content}

@@ -1,6 +1,6 @@
 -- `pair::open_words` meets its contract. Assumes nothing.
 use mathlib.Core.Bool.{Bool}
-use mathlib.Core.Path.{_≡_, refl, sym, ap, ap₂, _∙_}
+use mathlib.Core.Path.{sym, ap, ap₂, _∙_}
 use borrow.Author.Needs.{needs}
 use Rattle.bits.specs.Tests.{pick}
 use Rattle.message.specs.Codec.{labelledOf}

@@ -1,5 +1,4 @@
 -- `pair::refuse_frame` meets its contract. Assumes nothing.
-use mathlib.Core.Path.{_≡_, refl, sym, ap, ap₂, _∙_}
 use borrow.Author.Tests.{eq-eqb, ne-eqb}
 use Rattle.pair.proofs.refuse_frame.Statement.{statement}
 use Rattle.pair.proofs.refuse_frame.Tie as tie

@@ -1,5 +1,5 @@
 -- `pair::Opened::refusal` meets its contract. Assumes nothing.
-use mathlib.Core.Path.{_≡_, refl, sym, ap, ap₂, _∙_}
+use mathlib.Core.Path.{sym, ap, _∙_}
 use borrow.Author.Needs.{needs}
 use Rattle.pair.specs.Opening.{refusalOf}
 use Rattle.pair.proofs.Opened.refusal.Statement.{statement}
