@@ -1,10 +1,9 @@
 -- The pair table: its entries keep the four rules, 17 of 81 are yes. Assumes nothing.
-use mathlib.Core.Path.{_≡_, refl, sym, ap, ap₂, _∙_}
+use mathlib.Core.Path.{_≡_, refl, sym, ap₂, _∙_}
 use mathlib.Core.Bool.{Bool, true, false, not}
 use mathlib.Core.List.{List, [], _∷_}
-use Prim.Native.Nat.{ℕ, _+_, _*_, _/_, _%_, _<_}
-use native.Mathlib.Omega.{arith}
-use lib.Arith.{digits-div, digits-mod}
+use Prim.Native.Nat.{ℕ, _<_}
+use lib.Dec.{eqb}
 use lib.ListN.{length, getD}
 use Rattle.bits.specs.Tests.{both, every}
 use Rattle.bits.specs.Numbers.{sumOf}
@@ -16,17 +15,21 @@ use Rattle.pair.specs.Pairs.{numberOf, isIn, pairOf}
 use Rattle.bits.proofs.TestLaws.{every-at}
 
 -- the table, as the code has it
-unfoldable pub pairs : List Bool
+unfoldable pub pairs : List (List Bool)
 pairs =
-    false ∷ false ∷ false ∷ false ∷ false ∷ false ∷ false ∷ false ∷ false
-    ∷ false ∷ true ∷ false ∷ false ∷ false ∷ false ∷ false ∷ false ∷ false
-    ∷ false ∷ false ∷ false ∷ false ∷ false ∷ false ∷ false ∷ false ∷ false
-    ∷ true ∷ false ∷ false ∷ true ∷ false ∷ false ∷ true ∷ true ∷ false
-    ∷ false ∷ false ∷ true ∷ false ∷ false ∷ true ∷ false ∷ false ∷ false
-    ∷ false ∷ false ∷ false ∷ false ∷ false ∷ false ∷ false ∷ false ∷ false
-    ∷ true ∷ false ∷ false ∷ true ∷ false ∷ false ∷ true ∷ true ∷ false
-    ∷ true ∷ false ∷ false ∷ true ∷ false ∷ false ∷ true ∷ true ∷ false
-    ∷ false ∷ false ∷ true ∷ false ∷ false ∷ true ∷ false ∷ false ∷ false ∷ []
+    (false ∷ false ∷ false ∷ false ∷ false ∷ false ∷ false ∷ false ∷ false ∷ [])
+    ∷ (false ∷ true ∷ false ∷ false ∷ false ∷ false ∷ false ∷ false ∷ false ∷ [])
+    ∷ (false ∷ false ∷ false ∷ false ∷ false ∷ false ∷ false ∷ false ∷ false ∷ [])
+    ∷ (true ∷ false ∷ false ∷ true ∷ false ∷ false ∷ true ∷ true ∷ false ∷ [])
+    ∷ (false ∷ false ∷ true ∷ false ∷ false ∷ true ∷ false ∷ false ∷ false ∷ [])
+    ∷ (false ∷ false ∷ false ∷ false ∷ false ∷ false ∷ false ∷ false ∷ false ∷ [])
+    ∷ (true ∷ false ∷ false ∷ true ∷ false ∷ false ∷ true ∷ true ∷ false ∷ [])
+    ∷ (true ∷ false ∷ false ∷ true ∷ false ∷ false ∷ true ∷ true ∷ false ∷ [])
+    ∷ (false ∷ false ∷ true ∷ false ∷ false ∷ true ∷ false ∷ false ∷ false ∷ [])
+    ∷ []
+
+abbrev pub entry : ℕ → ℕ → Bool
+entry row column = getD (getD pairs row []) column false
 
 abbrev same : Bool → Bool → Bool
 same true b = b
@@ -55,28 +58,26 @@ numbered S6 = refl
 numbered S8 = refl
 numbered S8Plus = refl
 
--- entry i stands in row i / 9 and column i % 9
-entryKept : ℕ → Bool
-entryKept i = same (getD pairs i false) (pairOf (kindNumbered (i / 9)) (kindNumbered (i % 9)))
+entryKept : ℕ → ℕ → Bool
+entryKept row column = same (entry row column) (pairOf (kindNumbered row) (kindNumbered column))
 
 -- the whole table at once
-table-kept : every entryKept 81 ≡ true
+table-kept : every (λ row. every (entryKept row) 9) 9 ≡ true
 unfolding pairs entryKept kindNumbered pairOf every
 table-kept = refl
 
-pub pair-at : (a b : Kind) (i : ℕ) → i ≡ numberOf a * 9 + numberOf b → numberOf a < 9 → numberOf b < 9 → getD pairs i false ≡ pairOf a b
+pub pair-at : (a b : Kind) → numberOf a < 9 → numberOf b < 9 → entry (numberOf a) (numberOf b) ≡ pairOf a b
 unfolding entryKept
-pair-at a b i e ha hb =
-    let q : i / 9 ≡ numberOf a = ap (λ (n : ℕ). n / 9) e ∙ digits-div (numberOf a) hb in
-    let r : i % 9 ≡ numberOf b = ap (λ (n : ℕ). n % 9) e ∙ digits-mod (numberOf a) hb in
-    same-eq (getD pairs i false) (pairOf (kindNumbered (i / 9)) (kindNumbered (i % 9))) (every-at entryKept 81 table-kept i (omega arith))
-    ∙ ap₂ pairOf (ap kindNumbered q ∙ numbered a) (ap kindNumbered r ∙ numbered b)
+pair-at a b ha hb =
+    let row = every-at (λ n. every (entryKept n) 9) 9 table-kept (numberOf a) ha in
+    same-eq (entry (numberOf a) (numberOf b)) (pairOf (kindNumbered (numberOf a)) (kindNumbered (numberOf b))) (every-at (entryKept (numberOf a)) 9 row (numberOf b) hb)
+    ∙ ap₂ pairOf (numbered a) (numbered b)
 
-pub eighty-one : length pairs ≡ 81
-unfolding pairs
-eighty-one = refl
+pub nine-by-nine : both (eqb (length pairs) 9) (every (λ row. eqb (length (getD pairs row [])) 9) 9) ≡ true
+unfolding pairs every
+nine-by-nine = refl
 
-pub seventeen : sumOf (λ i. bit (getD pairs i false)) 81 ≡ 17
+pub seventeen : sumOf (λ row. sumOf (λ column. bit (entry row column)) 9) 9 ≡ 17
 unfolding pairs sumOf
 seventeen = refl
 

@@ -11,89 +11,21 @@ use message::Labelled;
 use message::Message;
 use refusal::Refusal;
 
-// A row for each first kind, named behind its last entry, and a column for each second: Blank, S.0, S.3, S.4, S.4+, S.5, S.6, S.8, S.8+.
-const PAIRS: [bool; 81] = [
-    false,
-    false,
-    false,
-    false,
-    false,
-    false,
-    false,
-    false,
-    false, // Blank
-    false,
-    true,
-    false,
-    false,
-    false,
-    false,
-    false,
-    false,
-    false, // S.0
-    false,
-    false,
-    false,
-    false,
-    false,
-    false,
-    false,
-    false,
-    false, // S.3
-    true,
-    false,
-    false,
-    true,
-    false,
-    false,
-    true,
-    true,
-    false, // S.4
-    false,
-    false,
-    true,
-    false,
-    false,
-    true,
-    false,
-    false,
-    false, // S.4+
-    false,
-    false,
-    false,
-    false,
-    false,
-    false,
-    false,
-    false,
-    false, // S.5
-    true,
-    false,
-    false,
-    true,
-    false,
-    false,
-    true,
-    true,
-    false, // S.6
-    true,
-    false,
-    false,
-    true,
-    false,
-    false,
-    true,
-    true,
-    false, // S.8
-    false,
-    false,
-    true,
-    false,
-    false,
-    true,
-    false,
-    false,
-    false, // S.8+
+const YES: bool = true;
+
+const NO: bool = false;
+
+// A row for each first kind, a column for each second: Blank, S.0, S.3, S.4, S.4+, S.5, S.6, S.8, S.8+.
+const PAIRS: [[bool; 9]; 9] = [
+    [NO, NO, NO, NO, NO, NO, NO, NO, NO], // Blank
+    [NO, YES, NO, NO, NO, NO, NO, NO, NO], // S.0
+    [NO, NO, NO, NO, NO, NO, NO, NO, NO], // S.3
+    [YES, NO, NO, YES, NO, NO, YES, YES, NO], // S.4
+    [NO, NO, YES, NO, NO, YES, NO, NO, NO], // S.4+
+    [NO, NO, NO, NO, NO, NO, NO, NO, NO], // S.5
+    [YES, NO, NO, YES, NO, NO, YES, YES, NO], // S.6
+    [YES, NO, NO, YES, NO, NO, YES, YES, NO], // S.8
+    [NO, NO, YES, NO, NO, YES, NO, NO, NO], // S.8+
 ];
 
 // The row or column of a kind.
@@ -117,8 +49,7 @@ fn number(k: Kind) -> usize
 fn is_pair(first: Kind, second: Kind) -> bool
     ensures { λ r. ⌜ r ≡ pairOf first second ⌝ }
 {
-    let at = number(first) * 9 + number(second);
-    PAIRS[at]
+    PAIRS[number(first)][number(second)]
 }
 
 // What an image opens as.
