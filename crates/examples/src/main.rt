@@ -3,10 +3,15 @@ mod captures;
 mod frames;
 mod images;
 mod levels;
+mod messages;
+mod pairs;
 mod show;
+mod tracks;
 
 fn main() {
     frames::run();
     levels::run();
     captures::run();
+    pairs::run();
+    tracks::run();
 }

@@ -11,6 +11,18 @@ pub fn number(n: u64) {
     io::print_decimal(STDOUT_FILENO, n);
 }
 
+// A signed number, after a space.
+pub fn signed(n: i16) {
+    let m = bits::magnitude(n);
+    if n < 0 {
+        text(b" -");
+        number(m + 1);
+    } else {
+        text(b" ");
+        number(m);
+    }
+}
+
 // A refusal's number and place.
 pub fn refusal(r: Refusal) {
     number(r.number as u64);
