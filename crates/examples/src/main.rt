@@ -5,6 +5,7 @@ mod images;
 mod levels;
 mod messages;
 mod pairs;
+mod shifts;
 mod show;
 mod tracks;
 
@@ -14,4 +15,5 @@ fn main() {
     captures::run();
     pairs::run();
     tracks::run();
+    shifts::run();
 }

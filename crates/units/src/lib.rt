@@ -1,4 +1,17 @@
-// Three measures that never stand in for one another: handing one in where another is wanted does not compile.
+// Feet, link steps and altitude steps: three measures that never stand in for one another. Handing one in where another is wanted does not
+// compile; one becomes another only where it is rounded.
+
+ghost use mathlib.Core.Path.{_≡_};
+ghost use Prim.Native.Nat.{_<_, _≤_, _^_};
+ghost use lib.IntN.{pos, _+ℤ_, _*ℤ_};
+ghost use lib.ListN.{length};
+ghost use lib.Signed.{mag};
+ghost use mir.Syntax.{w32};
+ghost use mir.Val.{SFits};
+ghost use Rattle.units.specs.Offsets.{isOffset, summedOf};
+ghost use Rattle.units.specs.Steps.{near, stepOf};
+ghost use Rattle.units.specs.Heights.{heightOf, refusalOf};
+use refusal::Refusal;
 
 // Feet.
 pub struct Feet(pub i32);
@@ -8,3 +21,119 @@ pub struct LinkSteps(pub i16);
 
 // Altitude steps of 375 feet.
 pub struct AltSteps(pub u16);
+
+// What a list of offsets comes to.
+pub enum Summed {
+    To(Feet),
+    OutOfRange,
+}
+
+// Where so many feet lie.
+pub enum Step {
+    At(LinkSteps),
+    OutOfRange,
+}
+
+// How high so many feet are.
+pub enum Height {
+    At(AltSteps),
+    TooHigh,
+}
+
+fn is_offset(x: Feet) -> bool
+    ensures { λ r. ⌜ r ≡ isOffset (x .0) ⌝ }
+{
+    let f = x.0;
+    if f < -6144000 {
+        return false;
+    }
+    f <= 6144000
+}
+
+fn plus(a: Feet, b: Feet) -> Feet
+    requires { ⌜ SFits w32 (a .0 +ℤ b .0) ⌝ }
+    ensures { λ r. ⌜ r .0 ≡ a .0 +ℤ b .0 ⌝ }
+{
+    Feet(a.0 + b.0)
+}
+
+// The sum of a list of offsets, which become feet here.
+pub fn add_up(offsets: &[i32]) -> Summed
+    requires { ⌜ length (now offsets) ≤ 8 ⌝ }
+    ensures { λ r. ⌜ r ≡ summedOf (now (offsets .entry)) ⌝ }
+{
+    let mut sum = Feet(0);
+    let mut i = 0;
+    while i < offsets.len() {
+        let x = Feet(offsets[i]);
+        if !is_offset(x) {
+            return Summed::OutOfRange;
+        }
+        sum = plus(sum, x);
+        i += 1;
+    }
+    Summed::To(sum)
+}
+
+// The exact feet of a position of `old` steps that is moved by so many feet.
+pub fn moved(old: LinkSteps, by: Feet) -> Feet
+    requires { ⌜ mag (by .0) < 2 ^ 30 ⌝ }
+    ensures { λ r. ⌜ r .0 ≡ pos 750 *ℤ old .0 +ℤ by .0 ⌝ }
+{
+    let steps = old.0 as i32;
+    Feet(750 * steps + by.0)
+}
+
+// In 64 bits, where a half step more or less cannot overflow.
+fn rounded(f: i64) -> i64
+    requires { ⌜ SFits w32 f ⌝ }
+    ensures { λ r. ⌜ r ≡ near f ⌝ }
+{
+    if f < 0 {
+        (f - 375) / 750
+    } else {
+        (f + 375) / 750
+    }
+}
+
+// The step nearest to so many feet, a half away from zero.
+pub fn nearest_step(feet: Feet) -> Step
+    ensures { λ r. ⌜ r ≡ stepOf (near (feet .0)) ⌝ }
+{
+    let f = feet.0 as i64;
+    let n = rounded(f);
+    if n < -4096 {
+        return Step::OutOfRange;
+    }
+    if n > 4095 {
+        return Step::OutOfRange;
+    }
+    Step::At(LinkSteps(n as i16))
+}
+
+// The altitude of so many feet, never 0: 9.
+pub fn altitude(feet: Feet) -> Height
+    ensures { λ r. ⌜ r ≡ heightOf (feet .0) ⌝ }
+{
+    let f = feet.0;
+    if f <= 375 {
+        return Height::At(AltSteps(1));
+    }
+    let steps = (f as u32 + 187) / 375;
+    if 511 < steps {
+        return Height::TooHigh;
+    }
+    Height::At(AltSteps(steps as u16))
+}
+
+impl Height {
+    // The answer as a number and a place.
+    pub fn refusal(self) -> Refusal
+        ensures { λ r. ⌜ r ≡ refusalOf self ⌝ }
+    {
+        match self {
+            Height::At(_) => Refusal::of(refusal::SUCCESS),
+            Height::TooHigh => Refusal::of(refusal::OUT_OF_RANGE),
+        }
+    }
+}

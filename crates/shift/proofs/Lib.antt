@@ -1,0 +1,2 @@
+mod ShiftLaws
+pub mod Theorems

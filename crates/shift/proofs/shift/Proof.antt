@@ -1,0 +1,57 @@
+-- `shift::shift` meets its contract. Assumes nothing.
+use mathlib.Core.Path.{sym, ap, _∙_}
+use borrow.Author.Needs.{needs}
+use borrow.Author.Tests.{not-true, not-false}
+use Rattle.bits.specs.declared.Packed.{Packed}
+use Rattle.shift.proofs.ShiftLaws.{shifted-none, shifted-bad, shifted-good}
+use Rattle.shift.proofs.shift.Statement.{statement}
+use Rattle.shift.proofs.shift.Tie as tie
+
+track-in-requires : tie.Need-track-in-requires
+track-in-requires c κs = search needs
+
+enum-known-t : tie.Need-enum-known-t
+enum-known-t c = search needs
+
+enum-told : tie.Need-enum-told
+enum-told c = search needs
+
+of-requires : tie.Need-of-requires
+of-requires c κs = search needs
+
+returns : tie.Need-returns
+returns c = rw (c .of .ensures) (sym (shifted-none _ _ _ (sym (c .before .before .before .track-in .ensures) ∙ c .before .enum-told .given .1)))
+
+encode-requires : tie.Need-encode-requires
+encode-requires c κs = search needs
+
+at-requires : tie.Need-at-requires
+at-requires c κs = search needs
+
+returns-2 : tie.Need-returns-2
+returns-2 c = rw (c .at .ensures) (sym (shifted-bad _ _ _ _ (sym (c .before .before .before .before .before .before .before .track-in .ensures) ∙ c .before .before .before .before .before .t .given .1) (sym (ap (λ (p : Packed). p .fits) (c .before .before .before .encode .ensures)) ∙ not-true _ (c .before .if1 .taken))))
+
+move-both-requires : tie.Need-move-both-requires
+move-both-requires c κs = search needs
+
+finish-requires : tie.Need-finish-requires
+finish-requires c κs = search needs
+
+returns-3 : tie.Need-returns-3
+returns-3 c = c .finish .ensures ∙ rw (c .before .move-both .ensures) (sym (shifted-good _ _ _ _ (sym (c .before .before .before .before .before .before .before .before .before .before .track-in .ensures) ∙ c .before .before .before .before .before .before .before .before .t .given .1) (sym (ap (λ (p : Packed). p .fits) (c .before .before .before .before .before .before .encode .ensures)) ∙ not-false _ (c .before .before .before .before .if1 .left))))
+
+pub shift-spec : {M : Type 1} → statement M
+shift-spec =
+    tie.close
+    (tie.spec
+    track-in-requires
+    enum-known-t
+    enum-told
+    of-requires
+    returns
+    encode-requires
+    at-requires
+    returns-2
+    move-both-requires
+    finish-requires
+    returns-3)

@@ -1,0 +1,8 @@
+mod Parts
+mod Ranges
+mod Rounding
+pub mod Sums
+pub mod Nearest
+pub mod Undo
+pub mod Order
+pub mod Examples
