@@ -2,11 +2,11 @@
 
 ghost use mathlib.Core.Path.{_≡_};
 ghost use Prim.Native.Nat.{_+_, _*_, _≤_, _<_, _^_};
+ghost use lib.Dec.{ltb};
 ghost use lib.ListN.{length};
 ghost use lib.Signed.{mag};
 ghost use Rattle.bits.specs.Numbers.{fieldOf, placedOf};
 ghost use Rattle.bits.specs.Octets.{bitAt};
-ghost use lib.Dec.{ltb};
 ghost use Rattle.bits.specs.Tests.{pick, both};
 ghost use Rattle.bits.specs.Layout.{bit};
 ghost use Rattle.bits.specs.Twos.{signedOf, unsignedOf};

@@ -26,7 +26,7 @@ use Rattle.message.specs.declared.Message.{Message}
 use Rattle.message.specs.declared.Message.the-variants as m
 use Rattle.message.specs.declared.Labelled.the-variants.{Known}
 use Rattle.message.specs.declared.Content.the-variants.{Good, Bad}
-use Rattle.bits.proofs.TestLaws.{to-T, from-T, both-true, both-left, both-right, both-intro}
+use Rattle.bits.proofs.TestLaws.{zero-one, to-T, from-T, both-true, both-left, both-right, both-intro}
 use Rattle.bits.proofs.LayoutLaws.{join-split, fits-split, split-join, allowed-join, first-join}
 use Rattle.message.proofs.TableLaws.{wide}
 
@@ -137,7 +137,7 @@ kind-made S8Plus vs = refl
 -- ---- labels
 
 label-from : (ks : List Kind) (n : ℕ) (k : Kind) → kindFrom ks n ≡ Known k → n ≡ labelOf k
-label-from [] n k p = let z : _≡_ {A = ℕ} 0 1 = cc in absurd (omega arith)
+label-from [] n k p = zero-one (cc)
 label-from (x ∷ ks) n k p = go (eqb n (labelOf x)) refl p (label-from ks n k)
   where
     go : (b : Bool) → eqb n (labelOf x) ≡ b → pick b (Known x) (kindFrom ks n) ≡ Known k → (kindFrom ks n ≡ Known k → n ≡ labelOf k) → n ≡ labelOf k
@@ -157,7 +157,7 @@ packed w = record { fits = true; word = w }
 
 module _ (k : Kind) (w : ℕ) (msg : Message) where
   written : (b : Bool) → labelledOf w ≡ Known k → contentKept k w ≡ b → pick b (Good (messageIn k w)) Bad ≡ Good msg → encodedOf msg ≡ packed w
-  written false l q p = let z : _≡_ {A = ℕ} 0 1 = cc in absurd (omega arith)
+  written false l q p = zero-one (cc)
   written true l q p =
       let t = both-true {a = allowed 6 (layoutOf k) w} {b = keptOf k (split 6 (layoutOf k) w)} q in
       let g : T (allowed 0 (wholeOf k) w) = whole k w l (to-T (t .0)) in
@@ -179,7 +179,7 @@ module _ (k : Kind) (w : ℕ) (msg : Message) where
     where
       go : (b : Bool) → pick b (Good (messageIn k w)) Bad ≡ Good msg → kindOf msg ≡ k
       go true q = let s : messageIn k w ≡ msg = cc in sym (ap kindOf s) ∙ kind-made k (split 6 (layoutOf k) w)
-      go false q = let z : _≡_ {A = ℕ} 0 1 = cc in absurd (omega arith)
+      go false q = zero-one (cc)
 
 -- ---- written, then read
 

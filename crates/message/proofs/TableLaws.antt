@@ -5,8 +5,8 @@ use mathlib.Core.List.{List, [], _∷_}
 use Prim.Native.Nat.{ℕ, zero, suc, _-_, _≤_, _<_}
 use native.Mathlib.Omega.{arith}
 use native.Mathlib.Nat.{le-of-suc-le-suc, not-suc-le-zero}
-use borrow.Author.Tests.{leb-true, eqb-true}
-use lib.Dec.{T, leb, eqb}
+use borrow.Author.Tests.{leb-true, ltb-true, eqb-true}
+use lib.Dec.{T, leb, ltb, eqb}
 use lib.ListN.{length, take}
 use Rattle.bits.specs.Tests.{both}
 use Rattle.bits.specs.Layout.{Field, Values}
@@ -39,11 +39,13 @@ pub length-raw : (fs : List Field) (vs : Values fs) → length (rawOf fs vs) ≡
 length-raw [] vs = refl
 length-raw (f ∷ fs) vs = ap suc (length-raw fs (vs .1))
 
-abbrev lawful : List Field → Bool
-lawful fs = both (leb (length fs) 13) (both (eqb (total (widthsOf fs)) 43) (allFew fs))
+-- what is computed of each kind
+abbrev lawful : Kind → Bool
+lawful k =
+    both (ltb (labelOf k) 64)
+    (both (leb (length (layoutOf k)) 13) (both (eqb (total (widthsOf (layoutOf k))) 43) (allFew (layoutOf k))))
 
--- a line for each kind
-laid : (k : Kind) → lawful (layoutOf k) ≡ true
+laid : (k : Kind) → lawful k ≡ true
 laid Blank = refl
 laid S0 = refl
 laid S3 = refl
@@ -54,31 +56,21 @@ laid S6 = refl
 laid S8 = refl
 laid S8Plus = refl
 
-pub short : (k : Kind) → length (layoutOf k) ≤ 13
-short k = leb-true _ _ (both-true {a = leb (length (layoutOf k)) 13} (laid k) .0)
+module _ (k : Kind) where
+  parts : (ltb (labelOf k) 64 ≡ true) × (leb (length (layoutOf k)) 13 ≡ true) × (eqb (total (widthsOf (layoutOf k))) 43 ≡ true) × (allFew (layoutOf k) ≡ true)
+  parts = let p = both-true (laid k) in let q = both-true (p .1) in let r = both-true (q .1) in (p .0, q .0, r .0, r .1)
 
-pub wide : (k : Kind) → total (widthsOf (layoutOf k)) ≡ 43
-wide k = eqb-true _ _ (both-true {a = eqb (total (widthsOf (layoutOf k))) 43} (both-true {a = leb (length (layoutOf k)) 13} (laid k) .1) .0)
+  pub label-lt : labelOf k < 64
+  label-lt = ltb-true _ _ (parts .0)
 
-pub few : (k : Kind) → T (allFew (layoutOf k))
-few k = to-T (both-true {a = eqb (total (widthsOf (layoutOf k))) 43} (both-true {a = leb (length (layoutOf k)) 13} (laid k) .1) .1)
+  pub short : length (layoutOf k) ≤ 13
+  short = leb-true _ _ (parts .1)
 
-pub label-lt : (k : Kind) → labelOf k < 64
-label-lt k = go (labelled k)
-  where
-    labelled : (k : Kind) → leb (suc (labelOf k)) 64 ≡ true
-    labelled Blank = refl
-    labelled S0 = refl
-    labelled S3 = refl
-    labelled S4 = refl
-    labelled S4Plus = refl
-    labelled S5 = refl
-    labelled S6 = refl
-    labelled S8 = refl
-    labelled S8Plus = refl
+  pub wide : total (widthsOf (layoutOf k)) ≡ 43
+  wide = eqb-true _ _ (parts .2)
 
-    go : leb (suc (labelOf k)) 64 ≡ true → labelOf k < 64
-    go e = leb-true _ _ e
+  pub few : T (allFew (layoutOf k))
+  few = to-T (parts .3)
 
 -- ---- the part of a table that the code hands on
 

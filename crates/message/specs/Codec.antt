@@ -1,4 +1,4 @@
--- One word to one message and back.
+-- One word to one message and back (001, Annex C, Appendix 3; 01, 'Messages').
 use mathlib.Core.Bool.{Bool, true, false}
 use mathlib.Core.List.{List, [], _∷_}
 use Prim.Native.Nat.{ℕ, zero, suc, _%_, _^_}

@@ -1,4 +1,4 @@
--- Messages and the values of their fields.
+-- Messages and the values of their fields (001, Annex C, Appendix 3; 01, 'Messages').
 use mathlib.Core.Bool.{Bool, true, false}
 use Prim.Native.Nat.{ℕ}
 use lib.Dec.{eqb}

@@ -1,5 +1,5 @@
 mod Parts
-mod Ranges
+pub mod Ranges
 mod Rounding
 pub mod Sums
 pub mod Nearest

@@ -1,12 +1,20 @@
 -- `near` is the nearest step, with a half away from zero, and the only such step. Assumes nothing.
-use mathlib.Core.Path.{_≡_, sym, ap}
+use mathlib.Core.Bool.{Bool, true, false}
+use mathlib.Core.Path.{_≡_, refl, sym, ap}
 use Prim.Native.Nat.{ℕ, suc, _+_, _*_, min, _≤_, _<_}
 use native.Mathlib.Omega.{arith}
+use borrow.Author.Tests.{ltb-false}
+use lib.Dec.{ltb}
 use lib.IntN.{ℤ, pos, negsuc, negℤ, natAbs, _-ℤ_, _*ℤ_}
+use lib.Signed.{leZ}
+use Rattle.bits.specs.Tests.{pick}
 use Rattle.units.specs.Steps.{near}
-use Rattle.units.specs.Heights.{nearAlt}
+use Rattle.units.specs.Heights.{nearAlt, heightOf}
 use Rattle.units.specs.Nearest.{dist, Nearest}
-use Rattle.units.proofs.Parts.{up, dn, side, abs-parts, from-parts, add-parts, neg-parts, mul-parts}
+use Rattle.units.specs.declared.AltSteps.{AltSteps}
+use Rattle.units.specs.declared.Height.the-variants as H
+use Rattle.bits.proofs.TestLaws.{zero-one}
+use Rattle.units.proofs.Parts.{up, dn, side, abs-parts, from-parts, add-parts, neg-parts, mul-parts, le-false}
 use Rattle.units.proofs.Rounding.{near-parts}
 
 -- the distance, by its parts: h above, l below
@@ -84,3 +92,17 @@ module _ (k : ℕ) (f : ℤ) where
 -- so a step is the nearest just where it is `near`
 pub nearest-is : (f n : ℤ) → Nearest 750 f n → n ≡ near f
 nearest-is f n p = nearest-only 750 f n (near f) (omega arith) p (near-nearest f)
+
+-- ---- an altitude is never 0, and never over 511
+
+pub height-range : (f : ℤ) (n : AltSteps) → heightOf f ≡ H.At n → (1 ≤ n .0) × (n .0 ≤ 511)
+unfolding heightOf nearAlt
+height-range f n = go (leZ f (pos 375)) refl (ltb 511 (nearAlt (natAbs f))) refl
+  where
+    go : (a : Bool) → leZ f (pos 375) ≡ a → (b : Bool) → ltb 511 (nearAlt (natAbs f)) ≡ b
+        → pick a (H.At (record { 0 = 1 })) (pick b H.TooHigh (H.At (record { 0 = nearAlt (natAbs f) }))) ≡ H.At n → (1 ≤ n .0) × (n .0 ≤ 511)
+    go true p b q e = let z : 1 ≡ n .0 = cc in (omega (arith, z), omega (arith, z))
+    go false p true q e = zero-one (cc)
+    go false p false q e =
+        let z : nearAlt (natAbs f) ≡ n .0 = cc in
+        (omega (arith, z, le-false f (pos 375) p, abs-parts f, side f), omega (arith, z, ltb-false 511 (nearAlt (natAbs f)) q))

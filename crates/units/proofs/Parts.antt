@@ -1,6 +1,6 @@
 -- ℤ for `omega`: an integer z by its two parts, up z - dn z, of which one is 0. Each operation and each test of ℤ is a linear fact of the parts.
 -- Assumes nothing.
-use mathlib.Core.Path.{_≡_, refl, sym, ap, _∙_, subst}
+use mathlib.Core.Path.{_≡_, refl, sym, ap, _∙_}
 use mathlib.Core.Bool.{Bool, true, false, not, cond}
 use Prim.Native.Nat.{ℕ, zero, suc, _+_, _-_, _*_, _/_, _^_, min, _≤_, _<_}
 use native.Mathlib.Omega.{arith}
@@ -10,6 +10,7 @@ use lib.IntN.{ℤ, pos, negsuc, negℤ, natAbs, subℕ, _+ℤ_, _*ℤ_}
 use lib.Signed.{mag, leZ, ltZ, quotZ, nonNeg, ltZ-no}
 use mir.Syntax.{Width}
 use mir.Val.{SFits, hbits}
+use Rattle.bits.proofs.TestLaws.{to-T}
 
 abbrev pub up : ℤ → ℕ
 up (pos n) = n
@@ -85,17 +86,14 @@ pub mag-parts : (z : ℤ) {H : ℕ} → mag z < H → (up z < H) × (dn z ≤ H)
 mag-parts (pos n) h = omega arith
 mag-parts (negsuc n) h = omega arith
 
-pub parts-mag : (z : ℤ) {H : ℕ} → up z < H → dn z ≤ H → mag z < H
-parts-mag (pos n) h k = h
-parts-mag (negsuc n) h k = k
+pub parts-mag : (z : ℤ) {H : ℕ} → (up z < H) × (dn z ≤ H) → mag z < H
+parts-mag (pos n) h = h .0
+parts-mag (negsuc n) h = h .1
 
-pub sfits : (w : Width) (z : ℤ) → up z < 2 ^ hbits w → dn z ≤ 2 ^ hbits w → SFits w z
-sfits w z h k = record { sfits = parts-mag z h k }
+pub sfits : (w : Width) (z : ℤ) → (up z < 2 ^ hbits w) × (dn z ≤ 2 ^ hbits w) → SFits w z
+sfits w z h = record { sfits = parts-mag z h }
 
 -- ---- a test's flag, as a branch leaves it
-
-true-T : {b : Bool} → b ≡ true → T b
-true-T e = subst T (sym e) tt
 
 by-not : (a b : Bool) → (T a → T b → ⊥) → (T (not b) → T a) → a ≡ not b
 by-not true true f g = absurd (f tt tt)
@@ -111,16 +109,16 @@ le-is x y = by-not (leZ x y) (ltZ y x) (λ p q. clash (le-parts x y p) (lt-parts
     clash h k = omega arith
 
 pub lt-true : (x y : ℤ) → ltZ x y ≡ true → up x + dn y < up y + dn x
-lt-true x y e = lt-parts x y (true-T e)
+lt-true x y e = lt-parts x y (to-T e)
 
 pub lt-false : (x y : ℤ) → ltZ x y ≡ false → up y + dn x ≤ up x + dn y
-lt-false x y e = le-parts y x (true-T (le-is y x ∙ ap not e))
+lt-false x y e = le-parts y x (to-T (le-is y x ∙ ap not e))
 
 pub le-true : (x y : ℤ) → leZ x y ≡ true → up x + dn y ≤ up y + dn x
-le-true x y e = le-parts x y (true-T e)
+le-true x y e = le-parts x y (to-T e)
 
 pub le-false : (x y : ℤ) → leZ x y ≡ false → up y + dn x < up x + dn y
-le-false x y e = lt-parts y x (true-T (flip (ltZ y x) (sym (le-is x y) ∙ e)))
+le-false x y e = lt-parts y x (to-T (flip (ltZ y x) (sym (le-is x y) ∙ e)))
   where
     flip : (b : Bool) → not b ≡ false → b ≡ true
     flip true h = refl

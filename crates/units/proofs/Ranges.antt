@@ -1,5 +1,5 @@
 -- What the tests of the code say of the ranges of the paper. Assumes nothing.
-use mathlib.Core.Path.{_≡_, sym, ap, _∙_}
+use mathlib.Core.Path.{_≡_, refl, sym, ap, _∙_}
 use mathlib.Core.Bool.{Bool, true, false, not}
 use Prim.Native.Nat.{_+_, _≤_}
 use native.Mathlib.Omega.{arith}
@@ -9,9 +9,10 @@ use mir.Syntax.{w16}
 use mir.Val.{SFits}
 use Rattle.bits.specs.Tests.{pick, both}
 use Rattle.units.specs.Offsets.{within}
-use Rattle.units.specs.Steps.{stepOf}
+use Rattle.units.specs.Steps.{isStep, stepOf}
+use Rattle.units.specs.declared.LinkSteps.{LinkSteps}
 use Rattle.units.specs.declared.Step.the-variants as S
-use Rattle.bits.proofs.TestLaws.{both-true, both-false}
+use Rattle.bits.proofs.TestLaws.{zero-one, both-true, both-false}
 use Rattle.units.proofs.Parts.{up, dn, le-is, le-true, lt-false, sfits, side}
 
 module _ (lo hi z : ℤ) where
@@ -57,4 +58,21 @@ module _ (n : ℤ) where
   step-fits e f =
       sfits w16 n
       (omega (arith, lt-false n (negsuc 4095) e, lt-false (pos 4095) n f, side n))
-      (omega (arith, lt-false n (negsuc 4095) e, lt-false (pos 4095) n f, side n))
+
+-- ---- what a position that is answered says of the tests
+
+pub step-is : (n : ℤ) (p : LinkSteps) → stepOf n ≡ S.At p → (isStep n ≡ true) × (p ≡ record { 0 = n })
+unfolding stepOf
+step-is n p = go (isStep n)
+  where
+    go : (b : Bool) → pick b (S.At (record { 0 = n })) S.OutOfRange ≡ S.At p → (b ≡ true) × (p ≡ record { 0 = n })
+    go true e = (refl, cc)
+    go false e = zero-one (cc)
+
+pub step-not : (n : ℤ) → stepOf n ≡ S.OutOfRange → isStep n ≡ false
+unfolding stepOf
+step-not n = go (isStep n)
+  where
+    go : (b : Bool) → pick b (S.At (record { 0 = n })) S.OutOfRange ≡ S.OutOfRange → b ≡ false
+    go true e = zero-one (cc)
+    go false e = refl

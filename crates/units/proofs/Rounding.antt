@@ -19,16 +19,16 @@ near-parts (negsuc n) = (neg-parts (pos ((suc n + 375) / 750)) .0, neg-parts (po
 
 module _ (f : ℤ) (h : SFits w32 f) where
   pub wide-fits : SFits w64 f
-  wide-fits = sfits w64 f (omega (arith, mag-parts f (h .sfits))) (omega (arith, mag-parts f (h .sfits)))
+  wide-fits = sfits w64 f (omega (arith, mag-parts f (h .sfits)))
 
   pub less-fits : SFits w64 (f -ℤ pos 375)
-  less-fits = sfits w64 (f +ℤ negsuc 374) (omega (arith, add-le f (negsuc 374), mag-parts f (h .sfits))) (omega (arith, add-le f (negsuc 374), mag-parts f (h .sfits)))
+  less-fits = sfits w64 (f +ℤ negsuc 374) (omega (arith, add-le f (negsuc 374), mag-parts f (h .sfits)))
 
   pub more-fits : SFits w64 (f +ℤ pos 375)
-  more-fits = sfits w64 (f +ℤ pos 375) (omega (arith, add-le f (pos 375), mag-parts f (h .sfits))) (omega (arith, add-le f (pos 375), mag-parts f (h .sfits)))
+  more-fits = sfits w64 (f +ℤ pos 375) (omega (arith, add-le f (pos 375), mag-parts f (h .sfits)))
 
 pub quot-fits : (z : ℤ) → SFits w64 z → SFits w64 (quotZ z (pos 750))
-quot-fits z h = sfits w64 (quotZ z (pos 750)) (omega (arith, quot-le 750 z, mag-parts z (h .sfits))) (omega (arith, quot-le 750 z, mag-parts z (h .sfits)))
+quot-fits z h = sfits w64 (quotZ z (pos 750)) (omega (arith, quot-le 750 z, mag-parts z (h .sfits)))
 
 pub near-less : (f : ℤ) → ltZ f (pos 0) ≡ true → quotZ (f -ℤ pos 375) (pos 750) ≡ near f
 near-less f e =

@@ -15,7 +15,7 @@ use Rattle.bits.specs.Tests.{pick, both}
 use Rattle.units.specs.Offsets.{isOffset, areOffsets, sumZ, summedOf}
 use Rattle.units.specs.declared.Feet.{Feet}
 use Rattle.units.specs.declared.Summed.the-variants as S
-use Rattle.bits.proofs.TestLaws.{both-true}
+use Rattle.bits.proofs.TestLaws.{zero-one, both-true}
 use Rattle.units.proofs.Parts.{up, dn, side, add-le, parts-mag, sfits}
 use Rattle.units.proofs.Ranges.{within-parts}
 
@@ -46,7 +46,6 @@ module _ (xs : List ℤ) (i : ℕ) (s : ℤ) (inv : Summing xs i s) (h : i < len
     pub sum-fits : SFits w32 (s +ℤ getD xs i (pos 0))
     sum-fits =
         sfits w32 (s +ℤ getD xs i (pos 0))
-        (omega (arith, add-le s (getD xs i (pos 0)), offset-parts (getD xs i (pos 0)) e, inv))
         (omega (arith, add-le s (getD xs i (pos 0)), offset-parts (getD xs i (pos 0)) e, inv))
 
     moved : sumZ xs ≡ (s +ℤ getD xs i (pos 0)) +ℤ sumZ (drop (suc i) xs)
@@ -85,11 +84,11 @@ pub sum-bound : (xs : List ℤ) → areOffsets xs ≡ true → (up (sumZ xs) ≤
 unfolding areOffsets sumZ
 sum-bound [] e = omega arith
 sum-bound (x ∷ xs) e =
-    let p = both-true e in
+    let p = both-true {a = isOffset x} {b = areOffsets xs} e in
     omega (arith, sum-bound xs (p .1), offset-parts x (p .0), add-le x (sumZ xs))
 
 pub sum-small : (xs : List ℤ) → length xs ≤ 8 → areOffsets xs ≡ true → mag (sumZ xs) < 2 ^ 30
-sum-small xs h e = parts-mag (sumZ xs) (omega (arith, sum-bound xs e, h)) (omega (arith, sum-bound xs e, h))
+sum-small xs h e = parts-mag (sumZ xs) (omega (arith, sum-bound xs e, h))
 
 pub summed-is : (xs : List ℤ) (s : Feet) → summedOf xs ≡ S.To s → (areOffsets xs ≡ true) × (sumZ xs ≡ s .0)
 unfolding summedOf
@@ -97,12 +96,12 @@ summed-is xs s = go (areOffsets xs)
   where
     go : (b : Bool) → pick b (S.To (record { 0 = sumZ xs })) S.OutOfRange ≡ S.To s → (b ≡ true) × (sumZ xs ≡ s .0)
     go true e = (refl, cc)
-    go false e = let z : _≡_ {A = ℕ} 0 1 = cc in absurd (omega arith)
+    go false e = zero-one (cc)
 
 pub summed-not : (xs : List ℤ) → summedOf xs ≡ S.OutOfRange → areOffsets xs ≡ false
 unfolding summedOf
 summed-not xs = go (areOffsets xs)
   where
     go : (b : Bool) → pick b (S.To (record { 0 = sumZ xs })) S.OutOfRange ≡ S.OutOfRange → b ≡ false
-    go true e = let z : _≡_ {A = ℕ} 0 1 = cc in absurd (omega arith)
+    go true e = zero-one (cc)
     go false e = refl

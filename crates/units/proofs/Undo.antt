@@ -33,7 +33,7 @@ module _ (o d : ℤ) where
   pub near-undone : (OddMultiple d → ⊥) → near (pos 750 *ℤ near (pos 750 *ℤ o +ℤ d) +ℤ negℤ d) ≡ o
   near-undone even =
       let n = near (pos 750 *ℤ o +ℤ d) in
-      let s : dist 750 n (pos 750 *ℤ o +ℤ d) < 375 = omega (arith, near-within (pos 750 *ℤ o +ℤ d), λ-not) in
+      let s : dist 750 n (pos 750 *ℤ o +ℤ d) < 375 = omega (arith, near-within (pos 750 *ℤ o +ℤ d), not-half) in
       near-strict (pos 750 *ℤ n +ℤ negℤ d) o
       (omega (
         arith,
@@ -47,8 +47,8 @@ module _ (o d : ℤ) where
         mul-parts 750 n,
       ))
     where
-      λ-not : dist 750 (near (pos 750 *ℤ o +ℤ d)) (pos 750 *ℤ o +ℤ d) ≡ 375 → ⊥
-      λ-not e = even (half e)
+      not-half : dist 750 (near (pos 750 *ℤ o +ℤ d)) (pos 750 *ℤ o +ℤ d) ≡ 375 → ⊥
+      not-half e = even (half e)
 
 -- a position that is moved by a list and then by one offset that takes its sum back
 pub moved-back : (old : ℤ) (xs : List ℤ) → (OddMultiple (sumZ xs) → ⊥) → movedTo (movedTo old xs) (negℤ (sumZ xs) ∷ []) ≡ old

@@ -3,7 +3,7 @@ use mathlib.Core.Path.{_≡_, sym, _∙_}
 use borrow.Author.Needs.{needs}
 use Rattle.shift.specs.Shift.{sumsOf, movedOf}
 use Rattle.shift.specs.declared.Sums.the-variants as U
-use Rattle.shift.proofs.ShiftLaws.{sums-small}
+use Rattle.shift.proofs.ShiftLaws.{sums-are, added-small}
 use Rattle.shift.proofs.move_both.Statement.{statement}
 use Rattle.shift.proofs.move_both.Tie as tie
 
@@ -21,10 +21,10 @@ enum-known-dx : tie.Need-enum-known-dx
 enum-known-dx c = search needs
 
 moved-requires : tie.Need-moved-requires
-moved-requires c κs = sums-small _ _ _ _ (sums (c .before)) .0
+moved-requires c κs = added-small (sums-are _ _ _ _ (sums (c .before)) .0)
 
 moved-requires-2 : tie.Need-moved-requires-2
-moved-requires-2 c κs = sums-small _ _ _ _ (sums (c .before .before)) .1
+moved-requires-2 c κs = added-small (sums-are _ _ _ _ (sums (c .before .before)) .1)
 
 round-both-requires : tie.Need-round-both-requires
 round-both-requires c κs = search needs

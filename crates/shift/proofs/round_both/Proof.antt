@@ -2,7 +2,7 @@
 use mathlib.Core.Path.{sym, _∙_}
 use borrow.Author.Needs.{needs}
 use Rattle.shift.specs.Shift.{stepsOf}
-use Rattle.shift.proofs.ShiftLaws.{step-is, step-not}
+use Rattle.units.proofs.Ranges.{step-is, step-not}
 use Rattle.shift.proofs.round_both.Statement.{statement}
 use Rattle.shift.proofs.round_both.Tie as tie
 

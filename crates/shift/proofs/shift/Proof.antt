@@ -1,9 +1,10 @@
 -- `shift::shift` meets its contract. Assumes nothing.
 use mathlib.Core.Path.{sym, ap, _∙_}
+use mathlib.Core.Bool.{true, false}
 use borrow.Author.Needs.{needs}
 use borrow.Author.Tests.{not-true, not-false}
 use Rattle.bits.specs.declared.Packed.{Packed}
-use Rattle.shift.proofs.ShiftLaws.{shifted-none, shifted-bad, shifted-good}
+use Rattle.shift.proofs.ShiftLaws.{shifted-none, shifted-one}
 use Rattle.shift.proofs.shift.Statement.{statement}
 use Rattle.shift.proofs.shift.Tie as tie
 
@@ -29,7 +30,7 @@ at-requires : tie.Need-at-requires
 at-requires c κs = search needs
 
 returns-2 : tie.Need-returns-2
-returns-2 c = rw (c .at .ensures) (sym (shifted-bad _ _ _ _ (sym (c .before .before .before .before .before .before .before .track-in .ensures) ∙ c .before .before .before .before .before .t .given .1) (sym (ap (λ (p : Packed). p .fits) (c .before .before .before .encode .ensures)) ∙ not-true _ (c .before .if1 .taken))))
+returns-2 c = rw (c .at .ensures) (sym (shifted-one _ _ _ _ (sym (c .before .before .before .before .before .before .before .track-in .ensures) ∙ c .before .before .before .before .before .t .given .1) false (sym (ap (λ (p : Packed). p .fits) (c .before .before .before .encode .ensures)) ∙ not-true _ (c .before .if1 .taken))))
 
 move-both-requires : tie.Need-move-both-requires
 move-both-requires c κs = search needs
@@ -38,7 +39,7 @@ finish-requires : tie.Need-finish-requires
 finish-requires c κs = search needs
 
 returns-3 : tie.Need-returns-3
-returns-3 c = c .finish .ensures ∙ rw (c .before .move-both .ensures) (sym (shifted-good _ _ _ _ (sym (c .before .before .before .before .before .before .before .before .before .before .track-in .ensures) ∙ c .before .before .before .before .before .before .before .before .t .given .1) (sym (ap (λ (p : Packed). p .fits) (c .before .before .before .before .before .before .encode .ensures)) ∙ not-false _ (c .before .before .before .before .if1 .left))))
+returns-3 c = c .finish .ensures ∙ rw (c .before .move-both .ensures) (sym (shifted-one _ _ _ _ (sym (c .before .before .before .before .before .before .before .before .before .before .track-in .ensures) ∙ c .before .before .before .before .before .before .before .before .t .given .1) true (sym (ap (λ (p : Packed). p .fits) (c .before .before .before .before .before .before .encode .ensures)) ∙ not-false _ (c .before .before .before .before .if1 .left))))
 
 pub shift-spec : {M : Type 1} → statement M
 shift-spec =

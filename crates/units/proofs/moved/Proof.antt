@@ -11,15 +11,14 @@ use Rattle.units.proofs.moved.Statement.{statement}
 use Rattle.units.proofs.moved.Tie as tie
 
 widens : (o : ℤ) → SFits w16 o → SFits w32 o
-widens o h = sfits w32 o (omega (arith, mag-parts o (h .sfits))) (omega (arith, mag-parts o (h .sfits)))
+widens o h = sfits w32 o (omega (arith, mag-parts o (h .sfits)))
 
 times : (o : ℤ) → SFits w16 o → SFits w32 (pos 750 *ℤ o)
-times o h = sfits w32 (pos 750 *ℤ o) (omega (arith, mul-parts 750 o, mag-parts o (h .sfits))) (omega (arith, mul-parts 750 o, mag-parts o (h .sfits)))
+times o h = sfits w32 (pos 750 *ℤ o) (omega (arith, mul-parts 750 o, mag-parts o (h .sfits)))
 
 sum-fits : (o b : ℤ) → SFits w16 o → mag b < 2 ^ 30 → SFits w32 (pos 750 *ℤ o +ℤ b)
 sum-fits o b h k =
     sfits w32 (pos 750 *ℤ o +ℤ b)
-    (omega (arith, add-le (pos 750 *ℤ o) b, mul-parts 750 o, mag-parts o (h .sfits), mag-parts b k))
     (omega (arith, add-le (pos 750 *ℤ o) b, mul-parts 750 o, mag-parts o (h .sfits), mag-parts b k))
 
 cast-steps : tie.Need-cast-steps

@@ -1,10 +1,12 @@
 -- `message::put_text` meets its contract. Assumes nothing.
 use mathlib.Core.List.{List, [], _∷_}
-use mathlib.Core.Path.{_≡_, refl, _∙_}
+use mathlib.Core.Path.{_≡_, _∙_, ap}
 use Prim.Native.Nat.{ℕ, _<_}
 use native.Mathlib.Omega.{arith}
 use borrow.Author.Needs.{needs}
 use lib.ListN.{length, set, length-set}
+use Rattle.bits.specs.Numbers.{tab}
+use Rattle.bits.proofs.NumberLaws.{as-tab}
 use Rattle.message.proofs.texts.put_text.Statement.{statement}
 use Rattle.message.proofs.texts.put_text.Tie as tie
 
@@ -16,13 +18,8 @@ four-length l a b c d =
     length-set (set (set (set l 0 a) 1 b) 2 c) 3 d ∙ length-set (set (set l 0 a) 1 b) 2 c ∙ length-set (set l 0 a) 1 b ∙ length-set l 0 a
 
 fifth : (l : List ℕ) (a b c d e : ℕ) → length l ≡ 5 → set (four l a b c d) 4 e ≡ a ∷ b ∷ c ∷ d ∷ e ∷ []
-fifth [] a b c d e h = absurd (omega (arith, h))
-fifth (_ ∷ []) a b c d e h = absurd (omega (arith, h))
-fifth (_ ∷ _ ∷ []) a b c d e h = absurd (omega (arith, h))
-fifth (_ ∷ _ ∷ _ ∷ []) a b c d e h = absurd (omega (arith, h))
-fifth (_ ∷ _ ∷ _ ∷ _ ∷ []) a b c d e h = absurd (omega (arith, h))
-fifth (_ ∷ _ ∷ _ ∷ _ ∷ _ ∷ []) a b c d e h = refl
-fifth (_ ∷ _ ∷ _ ∷ _ ∷ _ ∷ _ ∷ l) a b c d e h = absurd (omega (arith, h))
+unfolding tab
+fifth l a b c d e h = ap (λ (s : List ℕ). set (four s a b c d) 4 e) (as-tab 5 l h)
 
 letter-requires : tie.Need-letter-requires
 letter-requires c κs = search needs
