@@ -1,4 +1,3 @@
 pub mod FrameLaws
 pub mod WordLaws
 mod PackingLaws
-pub mod Examples

@@ -1,4 +1,3 @@
 pub mod Table
 mod PairLaws
 pub mod Demand2
-pub mod Examples

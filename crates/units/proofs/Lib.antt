@@ -5,4 +5,3 @@ pub mod Sums
 pub mod Nearest
 pub mod Undo
 pub mod Order
-pub mod Examples

@@ -1,0 +1,51 @@
+// Link 1: the public list. Each public call and type, from the crate that has it.
+
+// The numbers a caller may get back.
+pub use refusal::BAD_CHECK;
+pub use refusal::BAD_CONTENT;
+pub use refusal::BAD_LENGTH;
+pub use refusal::BAD_LEVEL;
+pub use refusal::BAD_MARK;
+pub use refusal::BAD_PAIR;
+pub use refusal::BAD_START;
+pub use refusal::NO_FRAME;
+pub use refusal::NO_POSITION;
+pub use refusal::OUT_OF_RANGE;
+pub use refusal::Refusal;
+pub use refusal::SUCCESS;
+pub use refusal::UNKNOWN_LABEL;
+
+// Levels, frames and captures.
+pub use capture::Found;
+pub use capture::search;
+pub use frame::verdict;
+pub use line::Heard;
+pub use line::Receiver;
+pub use line::Window;
+pub use line::send;
+
+// Messages, pairs, and track numbers as text.
+pub use message::Amplifying;
+pub use message::Iff;
+pub use message::Kind;
+pub use message::Message;
+pub use message::Mode;
+pub use message::Strobe;
+pub use message::Track;
+pub use message::Tracked;
+pub use message::kind_of;
+pub use message::label;
+pub use message::track_number;
+pub use message::track_text;
+pub use pair::Opened;
+pub use pair::close;
+pub use pair::open;
+
+// Feet and steps, the altitude and the shift.
+pub use shift::Shifted;
+pub use shift::shift;
+pub use units::AltSteps;
+pub use units::Feet;
+pub use units::Height;
+pub use units::LinkSteps;
+pub use units::altitude;
