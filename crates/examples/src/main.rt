@@ -1,5 +1,6 @@
 // Runs the examples of the papers and cases at the edges; each line says what was asked and what came.
 mod captures;
+mod fields;
 mod frames;
 mod images;
 mod levels;
@@ -14,6 +15,7 @@ fn main() {
     levels::run();
     captures::run();
     pairs::run();
+    fields::run();
     tracks::run();
     shifts::run();
 }

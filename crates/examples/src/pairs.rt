@@ -12,7 +12,7 @@ use pair::Opened;
 use units::AltSteps;
 use units::LinkSteps;
 
-fn close(asked: &[u8], first: Message, second: Message) {
+pub fn close(asked: &[u8], first: Message, second: Message) {
     let mut image = [0x55u8; 16];
     show::text(asked);
     show::text(b": ");
@@ -101,26 +101,26 @@ fn far(x: i16, y: i16) -> Message {
     })
 }
 
-fn fast(altitude: u16, strength: u8, vx: i16) -> Message {
+fn fast() -> Message {
     Message::S5(Amplifying {
-        altitude: AltSteps(altitude),
-        strength,
+        altitude: AltSteps(511),
+        strength: 0,
         identification: 15,
         special: 3,
         simulated: true,
         drop: false,
         traffic: 2,
-        vx,
+        vx: -128,
         allocation: 1,
         special2: 5,
         vy: -128,
     })
 }
 
-fn answering(mode3a: Mode, request: u8) -> Message {
+fn answering() -> Message {
     Message::S3(Iff {
-        mode3a,
-        request,
+        mode3a: Mode::Present(4095),
+        request: 2,
         emergency: true,
         validation: false,
         mode1: Mode::Absent,
@@ -128,7 +128,7 @@ fn answering(mode3a: Mode, request: u8) -> Message {
     })
 }
 
-fn plus() -> Message {
+pub fn plus() -> Message {
     Message::S8Plus(Track {
         number: 32767,
         quality: 0,
@@ -155,29 +155,8 @@ fn closed() {
 }
 
 fn closed_plus() {
-    close(b"close S.8+ and S.5", plus(), fast(511, 0, -128));
-    close(b"close S.8+ and S.5, altitude 512", plus(), fast(512, 0, 0));
-    close(b"close S.8+ and S.5, strength 1", plus(), fast(0, 1, 0));
-    close(
-        b"close S.8+ and S.5, X velocity 128",
-        plus(),
-        fast(0, 0, 128),
-    );
-    close(
-        b"close S.8+ and S.3",
-        plus(),
-        answering(Mode::Present(4095), 2),
-    );
-    close(
-        b"close S.8+ and S.3, Mode 3/A 4096",
-        plus(),
-        answering(Mode::Present(4096), 2),
-    );
-    close(
-        b"close S.8+ and S.3, request/reply 3",
-        plus(),
-        answering(Mode::Absent, 3),
-    );
+    close(b"close S.8+ and S.5", plus(), fast());
+    close(b"close S.8+ and S.3", plus(), answering());
     close(b"close S.8+ and Blank", plus(), Message::Blank);
 }
 
@@ -193,12 +172,8 @@ fn back() {
         far(-4096, 4095),
         far(4095, -4096),
     );
-    again(b"open again S.8+ and S.5", plus(), fast(511, 0, -128));
-    again(
-        b"open again S.8+ and S.3",
-        plus(),
-        answering(Mode::Present(4095), 2),
-    );
+    again(b"open again S.8+ and S.5", plus(), fast());
+    again(b"open again S.8+ and S.3", plus(), answering());
 }
 
 fn short() {

@@ -68,6 +68,12 @@ fn refused() {
         &[-6144001],
     );
     shift(
+        b"shift 0, 0 by an offset and a Y offset out of range below",
+        at(0, 0),
+        &[6144000],
+        &[-6144001],
+    );
+    shift(
         b"shift 0, 0 by 6144000 eight times, and a Y offset out of range",
         at(0, 0),
         &[6144000; 8],
@@ -80,10 +86,10 @@ fn refused() {
         &[],
     );
     shift(
-        b"shift 0, 0 by 6144000 there and back",
+        b"shift 0, 0 by both ends of the offsets there and back",
         at(0, 0),
         &[6144000, -6144000, 1],
-        &[],
+        &[-6144000, 6144000],
     );
 }
 
@@ -105,6 +111,7 @@ pub fn run() {
     altitude(b"altitude of -2147483648 feet", -2147483648);
     altitude(b"altitude of 0 feet", 0);
     altitude(b"altitude of 375 feet", 375);
+    altitude(b"altitude of 376 feet", 376);
     altitude(b"altitude of 562 feet", 562);
     altitude(b"altitude of 563 feet", 563);
     altitude(b"altitude of 191812 feet", 191812);
