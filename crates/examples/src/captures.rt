@@ -2,10 +2,10 @@
 
 use crate::images;
 use crate::show;
-use capture::Found;
+use link1::Found;
 
 fn search(asked: &[u8], octets: &[u8], start: usize) {
-    let found = capture::search(octets, start);
+    let found = link1::search(octets, start);
     show::text(asked);
     show::text(b": ");
     show::refusal(found.refusal());

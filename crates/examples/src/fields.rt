@@ -2,14 +2,14 @@
 
 use crate::pairs;
 use crate::show;
-use message::Amplifying;
-use message::Iff;
-use message::Message;
-use message::Mode;
-use message::Strobe;
-use message::Track;
-use units::AltSteps;
-use units::LinkSteps;
+use link1::AltSteps;
+use link1::Amplifying;
+use link1::Iff;
+use link1::LinkSteps;
+use link1::Message;
+use link1::Mode;
+use link1::Strobe;
+use link1::Track;
 
 fn first(asked: &[u8], m: Message) {
     pairs::close(asked, m, Message::Blank);
@@ -39,107 +39,110 @@ fn tracks() {
     first(b"close S.8, Y 4096", track(0, 0, 0, 4096));
 }
 
-fn top_amplifying(altitude: u16) -> Amplifying {
-    Amplifying {
+fn codes(
+    altitude: u16,
+    strength: u8,
+    identification: u8,
+    special: u8,
+    traffic: u8,
+    allocation: u8,
+    special2: u8,
+) -> Message {
+    Message::S5(Amplifying {
         altitude: AltSteps(altitude),
-        strength: 7,
-        identification: 15,
-        special: 3,
+        strength,
+        identification,
+        special,
         simulated: true,
         drop: true,
-        traffic: 3,
+        traffic,
         vx: 127,
-        allocation: 3,
-        special2: 7,
+        allocation,
+        special2,
         vy: 127,
-    }
+    })
 }
 
-fn codes() {
-    second(
-        b"close S.5, all at the top",
-        Message::S5(top_amplifying(511)),
-    );
-    second(b"close S.5, altitude 512", Message::S5(top_amplifying(512)));
-    let mut a = top_amplifying(511);
-    a.strength = 8;
-    second(b"close S.5, strength 8", Message::S5(a));
-    a.strength = 1;
-    second(b"close S.5, strength 1", Message::S5(a));
-    a.strength = 2;
-    a.identification = 16;
-    second(b"close S.5, identification 16", Message::S5(a));
-    a.identification = 0;
-    a.special = 4;
-    second(b"close S.5, special 4", Message::S5(a));
-    a.special = 0;
-    a.traffic = 4;
-    second(b"close S.5, traffic class 4", Message::S5(a));
-    a.traffic = 0;
-    a.allocation = 4;
-    second(b"close S.5, allocation 4", Message::S5(a));
-    a.allocation = 0;
-    a.special2 = 8;
-    second(b"close S.5, second special 8", Message::S5(a));
+fn coded() {
+    second(b"close S.5, all at the top", codes(511, 7, 15, 3, 3, 3, 7));
+    second(b"close S.5, altitude 512", codes(512, 0, 0, 0, 0, 0, 0));
+    second(b"close S.5, strength 8", codes(0, 8, 0, 0, 0, 0, 0));
+    second(b"close S.5, strength 1", codes(0, 1, 0, 0, 0, 0, 0));
+    second(b"close S.5, identification 16", codes(0, 0, 16, 0, 0, 0, 0));
+    second(b"close S.5, special 4", codes(0, 0, 0, 4, 0, 0, 0));
+    second(b"close S.5, traffic class 4", codes(0, 0, 0, 0, 4, 0, 0));
+    second(b"close S.5, allocation 4", codes(0, 0, 0, 0, 0, 4, 0));
+    second(b"close S.5, second special 8", codes(0, 0, 0, 0, 0, 0, 8));
+}
+
+fn moving(vx: i16, vy: i16) -> Message {
+    Message::S5(Amplifying {
+        altitude: AltSteps(1),
+        strength: 0,
+        identification: 0,
+        special: 0,
+        simulated: false,
+        drop: false,
+        traffic: 0,
+        vx,
+        allocation: 0,
+        special2: 0,
+        vy,
+    })
 }
 
 fn velocities() {
-    let mut a = top_amplifying(511);
-    a.vx = -128;
-    a.vy = -128;
-    second(b"close S.5, velocities -128", Message::S5(a));
-    a.vx = 128;
-    second(b"close S.5, X velocity 128", Message::S5(a));
-    a.vx = -129;
-    second(b"close S.5, X velocity -129", Message::S5(a));
-    a.vx = 0;
-    a.vy = 128;
-    second(b"close S.5, Y velocity 128", Message::S5(a));
-    a.vy = -129;
-    second(b"close S.5, Y velocity -129", Message::S5(a));
+    second(b"close S.5, velocities -128", moving(-128, -128));
+    second(b"close S.5, X velocity 128", moving(128, 0));
+    second(b"close S.5, X velocity -129", moving(-129, 0));
+    second(b"close S.5, Y velocity 128", moving(0, 128));
+    second(b"close S.5, Y velocity -129", moving(0, -129));
 }
 
-fn top_strobe() -> Strobe {
-    Strobe {
+fn strobe(
+    width: u8,
+    category: u8,
+    azimuth: u16,
+    site: u8,
+    sensor: u8,
+    number: u8,
+    elevation: u8,
+    age: u8,
+) -> Message {
+    Message::S6(Strobe {
         acquisition: true,
-        width: 7,
-        category: 3,
+        width,
+        category,
         simulated: true,
-        azimuth: 4095,
-        site: 63,
-        sensor: 7,
-        number: 31,
-        elevation: 12,
-        age: 63,
-    }
+        azimuth,
+        site,
+        sensor,
+        number,
+        elevation,
+        age,
+    })
 }
 
 fn strobes() {
-    let mut s = top_strobe();
-    first(b"close S.6, all at the top", Message::S6(s));
-    s.width = 8;
-    first(b"close S.6, width 8", Message::S6(s));
-    s.width = 0;
-    s.category = 4;
-    first(b"close S.6, type 4", Message::S6(s));
-    s.category = 0;
-    s.azimuth = 4096;
-    first(b"close S.6, azimuth 4096", Message::S6(s));
-    s.azimuth = 0;
-    s.site = 64;
-    first(b"close S.6, site 64", Message::S6(s));
-    s.site = 0;
-    s.sensor = 8;
-    first(b"close S.6, sensor 8", Message::S6(s));
-    s.sensor = 0;
-    s.number = 32;
-    first(b"close S.6, number 32", Message::S6(s));
-    s.number = 0;
-    s.elevation = 13;
-    first(b"close S.6, elevation 13", Message::S6(s));
-    s.elevation = 0;
-    s.age = 64;
-    first(b"close S.6, age 64", Message::S6(s));
+    first(
+        b"close S.6, all at the bottom",
+        strobe(0, 0, 0, 0, 0, 0, 0, 0),
+    );
+    first(
+        b"close S.6, all at the top",
+        strobe(7, 3, 4095, 63, 7, 31, 12, 63),
+    );
+    first(b"close S.6, width 8", strobe(8, 0, 0, 0, 0, 0, 0, 0));
+    first(b"close S.6, type 4", strobe(0, 4, 0, 0, 0, 0, 0, 0));
+    first(
+        b"close S.6, azimuth 4096",
+        strobe(0, 0, 4096, 0, 0, 0, 0, 0),
+    );
+    first(b"close S.6, site 64", strobe(0, 0, 0, 64, 0, 0, 0, 0));
+    first(b"close S.6, sensor 8", strobe(0, 0, 0, 0, 8, 0, 0, 0));
+    first(b"close S.6, number 32", strobe(0, 0, 0, 0, 0, 32, 0, 0));
+    first(b"close S.6, elevation 13", strobe(0, 0, 0, 0, 0, 0, 13, 0));
+    first(b"close S.6, age 64", strobe(0, 0, 0, 0, 0, 0, 0, 64));
 }
 
 fn answering(mode1: Mode, mode2: Mode, mode3a: Mode, request: u8) -> Message {
@@ -153,28 +156,20 @@ fn answering(mode1: Mode, mode2: Mode, mode3a: Mode, request: u8) -> Message {
     })
 }
 
+fn present(mode1: u16, mode2: u16, mode3a: u16) -> Message {
+    answering(
+        Mode::Present(mode1),
+        Mode::Present(mode2),
+        Mode::Present(mode3a),
+        4,
+    )
+}
+
 fn modes() {
-    second(
-        b"close S.3, all at the top",
-        answering(
-            Mode::Present(31),
-            Mode::Present(4095),
-            Mode::Present(4095),
-            4,
-        ),
-    );
-    second(
-        b"close S.3, Mode 1 32",
-        answering(Mode::Present(32), Mode::Absent, Mode::Absent, 0),
-    );
-    second(
-        b"close S.3, Mode 2 4096",
-        answering(Mode::Absent, Mode::Present(4096), Mode::Absent, 0),
-    );
-    second(
-        b"close S.3, Mode 3/A 4096",
-        answering(Mode::Absent, Mode::Absent, Mode::Present(4096), 0),
-    );
+    second(b"close S.3, all at the top", present(31, 4095, 4095));
+    second(b"close S.3, Mode 1 32", present(32, 0, 0));
+    second(b"close S.3, Mode 2 4096", present(0, 4096, 0));
+    second(b"close S.3, Mode 3/A 4096", present(0, 0, 4096));
 }
 
 fn request(n: u8) {
@@ -197,7 +192,7 @@ fn requests() {
 
 pub fn run() {
     tracks();
-    codes();
+    coded();
     velocities();
     strobes();
     modes();

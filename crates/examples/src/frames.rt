@@ -4,7 +4,7 @@ use crate::images;
 use crate::show;
 
 fn verdict(asked: &[u8], image: &[u8]) {
-    show::answer(asked, frame::verdict(image));
+    show::answer(asked, link1::verdict(image));
 }
 
 fn words(asked: &[u8], image: &[u8; 16]) {

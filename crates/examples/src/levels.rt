@@ -2,13 +2,13 @@
 
 use crate::images;
 use crate::show;
-use line::Heard;
-use line::Receiver;
+use link1::Heard;
+use link1::Receiver;
 
 // What one level was answered, if it was not silence: `at` is its number in the run that is fed.
 fn tell(at: usize, heard: Heard) {
     let image = heard.image;
-    if heard.refusal.number != refusal::SUCCESS {
+    if heard.refusal.number != link1::SUCCESS {
         show::text(b" refused ");
         show::refusal(heard.refusal);
         show::text(b" at ");
@@ -43,7 +43,7 @@ fn hear(asked: &[u8], first: &[u8], levels: &[u8]) {
 }
 
 fn send(asked: &[u8], image: &[u8], previous: u8, levels: &mut [u8]) {
-    show::answer(asked, line::send(image, previous, levels));
+    show::answer(asked, link1::send(image, previous, levels));
 }
 
 fn hear_without_last(levels: [u8; 128]) {

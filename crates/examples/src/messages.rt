@@ -1,12 +1,12 @@
 // A message in words: its label and what it holds.
 
 use crate::show;
-use message::Amplifying;
-use message::Iff;
-use message::Message;
-use message::Mode;
-use message::Strobe;
-use message::Track;
+use link1::Amplifying;
+use link1::Iff;
+use link1::Message;
+use link1::Mode;
+use link1::Strobe;
+use link1::Track;
 
 fn named(name: &[u8], n: u64) {
     show::text(name);
@@ -56,7 +56,7 @@ fn strobe(s: Strobe) {
 }
 
 pub fn tell(m: Message) {
-    named(b", ", message::label(message::kind_of(m)));
+    named(b", ", link1::label(link1::kind_of(m)));
     match m {
         Message::Blank => {}
         Message::S0 => {}

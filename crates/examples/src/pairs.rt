@@ -3,20 +3,20 @@
 use crate::images;
 use crate::messages;
 use crate::show;
-use message::Amplifying;
-use message::Iff;
-use message::Message;
-use message::Mode;
-use message::Track;
-use pair::Opened;
-use units::AltSteps;
-use units::LinkSteps;
+use link1::AltSteps;
+use link1::Amplifying;
+use link1::Iff;
+use link1::LinkSteps;
+use link1::Message;
+use link1::Mode;
+use link1::Opened;
+use link1::Track;
 
 pub fn close(asked: &[u8], first: Message, second: Message) {
     let mut image = [0x55u8; 16];
     show::text(asked);
     show::text(b": ");
-    show::refusal(pair::close(first, second, &mut image));
+    show::refusal(link1::close(first, second, &mut image));
     show::octets(&image);
     show::text(b"\n");
 }
@@ -24,7 +24,7 @@ pub fn close(asked: &[u8], first: Message, second: Message) {
 fn open(asked: &[u8], image: &[u8]) {
     show::text(asked);
     show::text(b": ");
-    let opened = pair::open(image);
+    let opened = link1::open(image);
     show::refusal(opened.refusal());
     if let Opened::Pair(first, second) = opened {
         messages::tell(first);
@@ -162,7 +162,7 @@ fn closed_plus() {
 
 fn again(asked: &[u8], first: Message, second: Message) {
     let mut image = [0u8; 16];
-    pair::close(first, second, &mut image);
+    link1::close(first, second, &mut image);
     open(asked, &image);
 }
 
@@ -180,7 +180,7 @@ fn short() {
     let mut image = [0x55u8; 15];
     show::answer(
         b"close S.4 and S.0 into fifteen octets",
-        pair::close(far(4096, 0), Message::S0, &mut image),
+        link1::close(far(4096, 0), Message::S0, &mut image),
     );
 }
 

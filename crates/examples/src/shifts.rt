@@ -2,11 +2,11 @@
 
 use crate::messages;
 use crate::show;
-use message::Message;
-use message::Track;
-use units::Feet;
-use units::Height;
-use units::LinkSteps;
+use link1::Feet;
+use link1::Height;
+use link1::LinkSteps;
+use link1::Message;
+use link1::Track;
 
 fn at(x: i16, y: i16) -> Message {
     Message::S4(Track {
@@ -18,7 +18,7 @@ fn at(x: i16, y: i16) -> Message {
 }
 
 fn shift(asked: &[u8], m: Message, xs: &[i32], ys: &[i32]) {
-    let shifted = shift::shift(m, xs, ys);
+    let shifted = link1::shift(m, xs, ys);
     let after = shifted.message;
     show::text(asked);
     show::text(b": ");
@@ -94,7 +94,7 @@ fn refused() {
 }
 
 fn altitude(asked: &[u8], feet: i32) {
-    let height = units::altitude(Feet(feet));
+    let height = link1::altitude(Feet(feet));
     show::text(asked);
     show::text(b": ");
     show::refusal(height.refusal());

@@ -1,7 +1,7 @@
 // Lines of the output.
 
 use libc::STDOUT_FILENO;
-use refusal::Refusal;
+use link1::Refusal;
 
 pub fn text(t: &[u8]) {
     io::write_all(STDOUT_FILENO, t);

@@ -3,7 +3,7 @@
 use crate::show;
 
 fn number(text: &[u8]) {
-    let tracked = message::track_number(text);
+    let tracked = link1::track_number(text);
     show::text(b"number of ");
     show::text(text);
     show::text(b": ");
@@ -15,7 +15,7 @@ fn number(text: &[u8]) {
 
 fn text(number: u16) {
     let mut made = *b".....";
-    let refusal = message::track_text(number, &mut made);
+    let refusal = link1::track_text(number, &mut made);
     show::text(b"text of ");
     show::number(number as u64);
     show::text(b": ");
@@ -29,7 +29,7 @@ fn short() {
     let mut made = *b"....";
     show::answer(
         b"text of 40000 into four octets",
-        message::track_text(40000, &mut made),
+        link1::track_text(40000, &mut made),
     );
 }
 

@@ -1,3 +1,3 @@
-mod TableLaws
+pub mod TableLaws
 pub mod TextLaws
 pub mod RoundTrip

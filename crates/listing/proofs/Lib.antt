@@ -1,0 +1,5 @@
+mod WroteLaws
+pub mod TextLaws
+mod ListingLaws
+pub mod OneAnswer
+pub mod Examples

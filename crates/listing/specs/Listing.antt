@@ -1,0 +1,60 @@
+-- 01, 'The listing program': the whole of what is written for a log.
+use Prim.Native.Nat.{ℕ, zero, suc, _*_, _/_, _%_}
+use mathlib.Core.List.{List, [], _∷_, _++_}
+use lib.ListN.{length, take, drop}
+use lib.Dec.{ltb}
+use Rattle.bits.specs.Tests.{pick}
+use Rattle.message.specs.Layouts.{labelOf}
+use Rattle.message.specs.Messages.{kindOf}
+use Rattle.pair.specs.Opening.{refusalOf, openOf}
+use Rattle.pair.specs.declared.Opened.{Opened}
+use Rattle.pair.specs.declared.Opened.the-variants.{Pair, BadLength, BadStart, BadMark, BadCheck}
+use Rattle.pair.specs.declared.Opened.the-variants.{FirstUnknown, SecondUnknown, BadPair, FirstBad, SecondBad}
+use Rattle.listing.specs.Text.{octets, row}
+
+-- 'the header LINK1'
+abbrev pub header : List ℕ
+header = octets "LINK1\n"
+
+-- 'per image its number from 1 and, if opened, 0 and both labels, else the refusal and place'
+abbrev pub refused : ℕ → Opened → List ℕ
+refused n opened = n ∷ refusalOf opened .number ∷ refusalOf opened .place ∷ []
+
+abbrev pub numbersOf : ℕ → Opened → List ℕ
+numbersOf n (Pair first second) = n ∷ 0 ∷ labelOf (kindOf first) ∷ labelOf (kindOf second) ∷ []
+numbersOf n BadLength = refused n BadLength
+numbersOf n BadStart = refused n BadStart
+numbersOf n BadMark = refused n BadMark
+numbersOf n BadCheck = refused n BadCheck
+numbersOf n FirstUnknown = refused n FirstUnknown
+numbersOf n SecondUnknown = refused n SecondUnknown
+numbersOf n BadPair = refused n BadPair
+numbersOf n FirstBad = refused n FirstBad
+numbersOf n SecondBad = refused n SecondBad
+
+unfoldable pub imageLine : ℕ → Opened → List ℕ
+imageLine n opened = row (numbersOf n opened)
+
+-- 'the sixteen octets at each place in the log': the image that begins at octet 16 k
+unfoldable pub imageAt : List ℕ → ℕ → List ℕ
+imageAt log k = take 16 (drop (k * 16) log)
+
+-- the lines of the first k images of a log
+unfoldable pub imageLines : List ℕ → ℕ → List ℕ
+imageLines log zero = []
+imageLines log (suc k) = imageLines log k ++ imageLine (suc k) (openOf (imageAt log k))
+
+-- 'last END, the images listed and the octets left over'
+unfoldable pub lastLine : ℕ → ℕ → List ℕ
+lastLine images left = octets "END " ++ row (images ∷ left ∷ [])
+
+-- 'at most 65,536 octets; more gives the single line TOO LONG'
+abbrev pub tooLong : List ℕ
+tooLong = octets "TOO LONG\n"
+
+-- the listing of a log
+unfoldable pub listingOf : List ℕ → List ℕ
+listingOf log =
+    pick (ltb 65536 (length log))
+    tooLong
+    (header ++ imageLines log (length log / 16) ++ lastLine (length log / 16) (length log % 16))

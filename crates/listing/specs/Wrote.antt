@@ -1,0 +1,14 @@
+-- What a function that puts a text into a lent buffer leaves there.
+use Prim.Native.Nat.{ℕ, _+_}
+use mathlib.Core.Path.{_≡_}
+use mathlib.Core.List.{List, _++_}
+use lib.ListN.{length, take, drop}
+
+-- d with the text xs from index at on
+unfoldable pub written : List ℕ → ℕ → List ℕ → List ℕ
+written d at xs = take at d ++ xs ++ drop (at + length xs) d
+
+-- e is d with the text xs from index at on, and r is the index after it
+pub record Wrote (d : List ℕ) (at : ℕ) (xs e : List ℕ) (r : ℕ) : Type 0 where
+  pub next : r ≡ at + length xs
+  pub text : e ≡ written d at xs

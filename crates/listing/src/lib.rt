@@ -1,0 +1,130 @@
+// The listing of a log, as text in a lent buffer (01, 'The listing program').
+
+ghost use mathlib.Core.Path.{_≡_};
+ghost use Prim.Native.Nat.{_+_, _*_, _≤_, _<_};
+ghost use lib.ListN.{length};
+ghost use Rattle.io.specs.Counts.{Counts};
+ghost use Rattle.message.specs.Layouts.{labelOf};
+ghost use Rattle.message.specs.Messages.{kindOf};
+ghost use Rattle.listing.specs.Text.{decThen, row};
+ghost use Rattle.listing.specs.Wrote.{Wrote};
+ghost use Rattle.listing.specs.Listing.{imageLine, lastLine, listingOf};
+use link1::Message;
+use link1::Opened;
+
+// The longest log that is listed, in octets: 4,096 images.
+const MOST: usize = 65536;
+
+// Octets enough for the header, 20 for each image, and the last line.
+pub const ROOM: usize = 82000;
+
+// Puts text into out from index at on, and answers the index after it.
+fn put(out: &mut [u8], at: usize, text: &[u8]) -> usize
+    requires { ⌜ at + length (now text) ≤ length (now out) ⌝ }
+    ensures { λ r. ⌜ Wrote (now (out .entry)) at (now (text .entry)) (now (out .exit)) r ⌝ }
+{
+    bytes::copy(text, &mut out[at..]);
+    at + text.len()
+}
+
+// Puts n's decimal digits and the octet then.
+fn put_number(out: &mut [u8], at: usize, n: u64, then: u8) -> usize
+    requires { ⌜ at + 21 ≤ length (now out) ⌝ }
+    ensures { λ r. ⌜ Wrote (now (out .entry)) at (decThen n then) (now (out .exit)) r ⌝ }
+    ensures { λ r. ⌜ r ≤ at + 21 ⌝ }
+{
+    let mut digits = [0u8; 20];
+    let k = io::decimal(n, &mut digits);
+    let next = put(out, at, &digits[..k]);
+    out[next] = then;
+    next + 1
+}
+
+// Puts a line of numbers: a space between two, a line end after the last.
+fn put_row(out: &mut [u8], at: usize, numbers: &[u64]) -> usize
+    requires { ⌜ (at + 21 * length (now numbers) ≤ length (now out)) × (0 < length (now numbers)) ⌝ }
+    ensures { λ r. ⌜ Wrote (now (out .entry)) at (row (now (numbers .entry))) (now (out .exit)) r ⌝ }
+    ensures { λ r. ⌜ r ≤ at + 21 * length (now (numbers .entry)) ⌝ }
+{
+    let last = numbers.len() - 1;
+    let mut next = at;
+    let mut i: usize = 0;
+    while i < last {
+        next = put_number(out, next, numbers[i], b' ');
+        i += 1;
+    }
+    put_number(out, next, numbers[last], b'\n')
+}
+
+fn label(m: Message) -> u64
+    ensures { λ r. ⌜ (r ≡ labelOf (kindOf m)) × (r < 256) ⌝ }
+{
+    link1::label(link1::kind_of(m))
+}
+
+fn wide(x: u8) -> u64
+    ensures { λ r. ⌜ (r ≡ x) × (r < 256) ⌝ }
+{
+    x as u64
+}
+
+// Puts the line of image n.
+fn put_image(out: &mut [u8], at: usize, n: u64, opened: Opened) -> usize
+    requires { ⌜ (at + 84 ≤ length (now out)) × (n < 10000) ⌝ }
+    ensures { λ r. ⌜ Wrote (now (out .entry)) at (imageLine n opened) (now (out .exit)) r ⌝ }
+    ensures { λ r. ⌜ r ≤ at + 20 ⌝ }
+{
+    let Opened::Pair(first, second) = opened else {
+        let refused = opened.refusal();
+        return put_row(out, at, &[n, wide(refused.number), wide(refused.place)]);
+    };
+    put_row(out, at, &[n, 0, label(first), label(second)])
+}
+
+// Puts the last line.
+fn put_last(out: &mut [u8], at: usize, images: u64, left: u64) -> usize
+    requires { ⌜ at + 46 ≤ length (now out) ⌝ }
+    ensures { λ r. ⌜ Wrote (now (out .entry)) at (lastLine images left) (now (out .exit)) r ⌝ }
+    ensures { λ r. ⌜ r ≤ at + 46 ⌝ }
+{
+    let next = put(out, at, b"END ");
+    put_row(out, next, &[images, left])
+}
+
+// Puts the whole listing.
+fn fill(log: &[u8], out: &mut [u8]) -> usize
+    requires { ⌜ 82000 ≤ length (now out) ⌝ }
+    ensures { λ r. ⌜ Counts r (now (out .exit)) ⌝ }
+    ensures { λ r. ⌜ Wrote (now (out .entry)) 0 (listingOf (now (log .entry))) (now (out .exit)) r ⌝ }
+{
+    if log.len() > MOST {
+        return put(out, 0, b"TOO LONG\n");
+    }
+    let count = log.len() / 16;
+    let mut at = put(out, 0, b"LINK1\n");
+    let mut n: usize = 0;
+    while n < count {
+        let from = n * 16;
+        let opened = link1::open(&log[from..from + 16]);
+        n += 1;
+        at = put_image(out, at, n as u64, opened);
+    }
+    put_last(out, at, count as u64, (log.len() % 16) as u64)
+}
+
+// Puts the listing of log at the start of out, and answers its length. Any log will do.
+pub fn list_log(log: &[u8], out: &mut [u8; ROOM]) -> usize
+    ensures { λ r. ⌜ Counts r (now (out .exit)) ⌝ }
+    ensures { λ r. ⌜ Wrote (now (out .entry)) 0 (listingOf (now (log .entry))) (now (out .exit)) r ⌝ }
+{
+    fill(log, out)
+}
+
+// Lists the log that can be read from one descriptor on another. One octet more than a log may have is read, to tell that it has more.
+pub fn run(from: i32, to: i32) {
+    let mut space = [0u8; MOST + 1];
+    let n = io::read_full(from, &mut space);
+    let mut text = [0u8; ROOM];
+    let k = list_log(&space[..n], &mut text);
+    io::write_all(to, &text[..k]);
+}
