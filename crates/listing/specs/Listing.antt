@@ -16,10 +16,11 @@ use Rattle.listing.specs.Text.{octets, row}
 abbrev pub header : List ℕ
 header = octets "LINK1\n"
 
--- 'per image its number from 1 and, if opened, 0 and both labels, else the refusal and place'
+-- 'else the refusal and place'
 abbrev pub refused : ℕ → Opened → List ℕ
 refused n opened = n ∷ refusalOf opened .number ∷ refusalOf opened .place ∷ []
 
+-- 'per image its number from 1 and, if opened, 0 and both labels, else the refusal and place'
 abbrev pub numbersOf : ℕ → Opened → List ℕ
 numbersOf n (Pair first second) = n ∷ 0 ∷ labelOf (kindOf first) ∷ labelOf (kindOf second) ∷ []
 numbersOf n BadLength = refused n BadLength
@@ -32,6 +33,7 @@ numbersOf n BadPair = refused n BadPair
 numbersOf n FirstBad = refused n FirstBad
 numbersOf n SecondBad = refused n SecondBad
 
+-- the line of image n
 unfoldable pub imageLine : ℕ → Opened → List ℕ
 imageLine n opened = row (numbersOf n opened)
 

@@ -68,7 +68,7 @@ fn wide(x: u8) -> u64
     x as u64
 }
 
-// Puts the line of image n.
+// Puts the line of image n: at most four numbers, of at most four digits each.
 fn put_image(out: &mut [u8], at: usize, n: u64, opened: Opened) -> usize
     requires { ⌜ (at + 84 ≤ length (now out)) × (n < 10000) ⌝ }
     ensures { λ r. ⌜ Wrote (now (out .entry)) at (imageLine n opened) (now (out .exit)) r ⌝ }
@@ -81,7 +81,7 @@ fn put_image(out: &mut [u8], at: usize, n: u64, opened: Opened) -> usize
     put_row(out, at, &[n, 0, label(first), label(second)])
 }
 
-// Puts the last line.
+// Puts the last line: END, the images listed and the octets left over.
 fn put_last(out: &mut [u8], at: usize, images: u64, left: u64) -> usize
     requires { ⌜ at + 46 ≤ length (now out) ⌝ }
     ensures { λ r. ⌜ Wrote (now (out .entry)) at (lastLine images left) (now (out .exit)) r ⌝ }
@@ -120,7 +120,7 @@ pub fn list_log(log: &[u8], out: &mut [u8; ROOM]) -> usize
     fill(log, out)
 }
 
-// Lists the log that can be read from one descriptor on another. One octet more than a log may have is read, to tell that it has more.
+// Lists on one descriptor the log that is read from another. One octet more than a log may have is read, to tell that it has more.
 pub fn run(from: i32, to: i32) {
     let mut space = [0u8; MOST + 1];
     let n = io::read_full(from, &mut space);
