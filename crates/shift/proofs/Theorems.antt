@@ -1,6 +1,6 @@
 -- Laws of the shift: the steps are the nearest, the order of offsets does not matter, empty lists change nothing, and a shift can be
 -- taken back. Assumes nothing.
-use mathlib.Core.Path.{_≡_, refl, sym, ap, ap₂, _∙_}
+use mathlib.Core.Path.{_≡_, refl, sym, ap, ap₂, subst, _∙_}
 use mathlib.Core.Bool.{Bool, true, false}
 use mathlib.Core.List.{List, [], _∷_, _++_}
 use native.Mathlib.Omega.{arith}
@@ -27,7 +27,7 @@ use Rattle.bits.proofs.TestLaws.{zero-one}
 use Rattle.units.proofs.Nearest.{near-nearest}
 use Rattle.units.proofs.Order.{Alike, alike-self, exchanged}
 use Rattle.units.proofs.Undo.{not-moved, moved-back}
-use Rattle.shift.proofs.ShiftLaws.{moved-at, moved-refused, shifted-none, shifted-one}
+use Rattle.shift.proofs.ShiftLaws.{Stepping, moving, shifted-none, shifted-one}
 
 -- ---- the order of offsets
 
@@ -84,10 +84,13 @@ nothing-moves (m.S8Plus t) = kept-content (m.S8Plus t) t (encodedOf (m.S8Plus t)
 
 -- ---- the nearest steps
 
+moving-as : (x y : ℤ) (xs ys : List ℤ) (s : Steps) → movedOf x y xs ys ≡ s → Stepping (movedTo x xs) (movedTo y ys) s
+moving-as x y xs ys s e = subst (Stepping (movedTo x xs) (movedTo y ys)) e (moving x y xs ys)
+
 pub nearest-steps : (x y : ℤ) (xs ys : List ℤ) (a b : LinkSteps) → movedOf x y xs ys ≡ P.At a b
     → Nearest 750 (pos 750 *ℤ x +ℤ sumZ xs) (a .0) × Nearest 750 (pos 750 *ℤ y +ℤ sumZ ys) (b .0)
 nearest-steps x y xs ys a b e =
-    let p = moved-at x y xs ys a b e in
+    let p = moving-as x y xs ys (P.At a b) e in
     (rw (← p .0) (near-nearest (pos 750 *ℤ x +ℤ sumZ xs)), rw (← p .1) (near-nearest (pos 750 *ℤ y +ℤ sumZ ys)))
 
 -- ---- there and back: by offsets with the sums dx and dy, and then by one offset of -dx and one of -dy
@@ -97,8 +100,8 @@ position-back : (x y : ℤ) (xs ys : List ℤ) (a b c d : LinkSteps) → (OddMul
     → movedOf x y xs ys ≡ P.At a b → movedOf (a .0) (b .0) (negℤ (sumZ xs) ∷ []) (negℤ (sumZ ys) ∷ []) ≡ P.At c d
     → (c .0 ≡ x) × (d .0 ≡ y)
 position-back x y xs ys a b c d ox oy there back =
-    let p = moved-at x y xs ys a b there in
-    let q = moved-at (a .0) (b .0) (negℤ (sumZ xs) ∷ []) (negℤ (sumZ ys) ∷ []) c d back in (
+    let p = moving-as x y xs ys (P.At a b) there in
+    let q = moving-as (a .0) (b .0) (negℤ (sumZ xs) ∷ []) (negℤ (sumZ ys) ∷ []) (P.At c d) back in (
       sym (q .0) ∙ ap (λ (z : ℤ). movedTo z (negℤ (sumZ xs) ∷ [])) (sym (p .0)) ∙ moved-back x xs ox,
       sym (q .1) ∙ ap (λ (z : ℤ). movedTo z (negℤ (sumZ ys) ∷ [])) (sym (p .1)) ∙ moved-back y ys oy,
     )
@@ -118,7 +121,7 @@ given m t xs ys e r = content (encodedOf m .fits) refl
 
     finished : (s : Steps) → movedOf (t .x .0) (t .y .0) xs ys ≡ s → shiftedOf m xs ys ≡ finishedOf m t s → Given m t xs ys
     finished (P.At a b) q f = record { x = a; y = b; steps = q; whole = ap (λ (h : Shifted). h .message) f }
-    finished (P.Refused n axis) q f = absurd (omega (arith, number f, moved-refused _ _ xs ys n axis q))
+    finished (P.Refused n axis) q f = absurd (omega (arith, number f, moving-as _ _ xs ys _ q))
 
     content : (b : Bool) → encodedOf m .fits ≡ b → Given m t xs ys
     content true f = finished (movedOf (t .x .0) (t .y .0) xs ys) refl (shifted-one m xs ys t e true f)

@@ -17,9 +17,6 @@ use Rattle.message.proofs.TableLaws.{widths-are, widths-end, rules-are,
 use Rattle.message.proofs.encode.Statement.{statement}
 use Rattle.message.proofs.encode.Tie as tie
 
-table-of : {k l : Kind} → k ≡ l → tableOf (layoutOf k) ≡ tableOf (layoutOf l)
-table-of e = ap (λ (k : Kind). tableOf (layoutOf k)) e
-
 -- the fields packed above the label are the whole layout joined
 with-label : (m : Message)
     → pick (fits (layoutOf (kindOf m)) (partsOf m)) (record { fits = true; word = join 6 (layoutOf (kindOf m)) (partsOf m) + labelOf (kindOf m) }) (record { fits = false; word = 0 })
@@ -30,6 +27,16 @@ with-label m =
     let e : join 6 (layoutOf k) (partsOf m) + labelOf k ≡ join 0 (wholeOf k) (tt, partsOf m) = omega arith in
     ap (λ (n : ℕ). pick (fits (layoutOf k) (partsOf m)) (record { fits = true; word = n }) (record { fits = false; word = 0 })) e
     ∙ rw (lt-ltb (labelOf k) 64 (label-lt k), eq-eqb (labelOf k) (labelOf k) refl)
+
+-- ---- what the calls answered, at the place where all of them have
+
+abbrev message-of : tie.After-layout → Message
+message-of c = c .before .before .args .m
+
+table-is : (c : tie.After-layout) → c .layout .result ≡ tableOf (layoutOf (kindOf (message-of c)))
+table-is c = c .layout .ensures ∙ ap (λ (k : Kind). tableOf (layoutOf k)) (c .before .kind-of .ensures)
+
+-- ---- the needs
 
 kind-of-requires : tie.Need-kind-of-requires
 kind-of-requires c κs = search needs
@@ -50,7 +57,7 @@ part-pack-start : tie.Need-part-pack-start
 part-pack-start c = search needs
 
 part-pack-end : tie.Need-part-pack-end
-part-pack-end c = let t = c .before .before .before .before .before .layout in widths-end (t .result) (c .before .before .before .before .before .before .kind-of .result) (t .ensures)
+part-pack-end c = let l = c .before .before .before .before .before in widths-end (l .layout .result) (kindOf (message-of l)) (table-is l)
 
 sub-pack-2 : tie.Need-sub-pack-2
 sub-pack-2 c = search needs
@@ -59,7 +66,7 @@ part-pack-start-2 : tie.Need-part-pack-start-2
 part-pack-start-2 c = search needs
 
 part-pack-end-2 : tie.Need-part-pack-end-2
-part-pack-end-2 c = let t = c .before .before .before .before .before .before .before .layout in rules-end (t .result) (c .before .before .before .before .before .before .before .before .kind-of .result) (t .ensures)
+part-pack-end-2 c = let l = c .before .before .before .before .before .before .before in rules-end (l .layout .result) (kindOf (message-of l)) (table-is l)
 
 sub-pack-3 : tie.Need-sub-pack-3
 sub-pack-3 c = search needs
@@ -69,29 +76,30 @@ part-pack-start-3 c = search needs
 
 part-pack-end-3 : tie.Need-part-pack-end-3
 part-pack-end-3 c =
-    let t = c .before .before .before .before .before .before .before .before .before .layout in
-    let k = c .before .before .before .before .before .before .before .before .before .before .kind-of in
-    let m = c .before .before .before .before .before .before .before .before .before .before .before .args .m in
-    values-end (t .result) m (t .ensures ∙ table-of (k .ensures)) _ (c .before .before .before .before .before .before .values .ensures)
+    let v = c .before .before .before .before .before .before in
+    let l = v .before .before .before in
+    values-end (l .layout .result) (message-of l) (table-is l) _ (v .values .ensures)
 
 pack-requires : tie.Need-pack-requires
 pack-requires c κs =
-    let t = c .before .before .before .before .before .before .before .before .before .before .layout in
-    let k = c .before .before .before .before .before .before .before .before .before .before .before .kind-of in
-    let m = c .before .before .before .before .before .before .before .before .before .before .before .before .args .m in
-    let e = t .ensures ∙ table-of (k .ensures) in
-    rw (c .before .before .before .before .before .before .label .ensures, widths-are (t .result) (kindOf m) e, rules-are (t .result) (kindOf m) e, values-are (t .result) m e _ (c .before .before .before .before .before .before .before .values .ensures), wide (kindOf m))
-    (label-lt (k .result), search needs, length-widths (layoutOf (kindOf m)) ∙ sym (length-rules (layoutOf (kindOf m))), length-widths (layoutOf (kindOf m)) ∙ sym (length-raw (layoutOf (kindOf m)) (partsOf m)))
+    let b = c .before .before .before .before .before .before in
+    let v = b .before in
+    let l = v .before .before .before in
+    let k = kindOf (message-of l) in
+    let ws = layoutOf k in
+    rw (b .label .ensures, widths-are (l .layout .result) k (table-is l), rules-are (l .layout .result) k (table-is l), values-are (l .layout .result) (message-of l) (table-is l) _ (v .values .ensures), wide k)
+    (label-lt (l .before .kind-of .result), search needs, length-widths ws ∙ sym (length-rules ws), length-widths ws ∙ sym (length-raw ws (partsOf (message-of l))))
 
 returns : tie.Need-returns
 returns c =
-    let t = c .before .before .before .before .before .before .before .before .before .before .before .layout in
-    let k = c .before .before .before .before .before .before .before .before .before .before .before .before .kind-of in
-    let m = c .before .before .before .before .before .before .before .before .before .before .before .before .before .args .m in
-    let e = t .ensures ∙ table-of (k .ensures) in
+    let b = c .before .before .before .before .before .before .before in
+    let v = b .before in
+    let l = v .before .before .before in
+    let m = message-of l in
+    let k = kindOf m in
     c .pack .ensures
-    ∙ rw (c .before .before .before .before .before .before .before .label .ensures, k .ensures, widths-are (t .result) (kindOf m) e, rules-are (t .result) (kindOf m) e, values-are (t .result) m e _ (c .before .before .before .before .before .before .before .before .values .ensures))
-    (packed-layout (labelOf (kindOf m)) 6 (layoutOf (kindOf m)) (partsOf m) (few (kindOf m)) ∙ with-label m)
+    ∙ rw (b .label .ensures, l .before .kind-of .ensures, widths-are (l .layout .result) k (table-is l), rules-are (l .layout .result) k (table-is l), values-are (l .layout .result) m (table-is l) _ (v .values .ensures))
+    (packed-layout (labelOf k) 6 (layoutOf k) (partsOf m) (few k) ∙ with-label m)
 
 pub encode-spec : {M : Type 1} → statement M
 encode-spec =

@@ -1,15 +1,18 @@
 -- `shift::move_both` meets its contract. Assumes nothing.
-use mathlib.Core.Path.{_≡_, sym, _∙_}
+use mathlib.Core.Path.{_≡_, sym, subst, _∙_}
 use borrow.Author.Needs.{needs}
 use Rattle.shift.specs.Shift.{sumsOf, movedOf}
 use Rattle.shift.specs.declared.Sums.the-variants as U
-use Rattle.shift.proofs.ShiftLaws.{sums-are, added-small}
+use Rattle.shift.proofs.ShiftLaws.{Added, Summing, summing, added-small}
 use Rattle.shift.proofs.move_both.Statement.{statement}
 use Rattle.shift.proofs.move_both.Tie as tie
 
 -- the sums that the match bound
 sums : (c : tie.After-dx) → sumsOf (c .before .before .before .args .xs .now) (c .before .before .before .args .ys .now) ≡ U.Of (c .dx .given .0 .0) (c .dx .given .0 .1 .0)
 sums c = sym (c .before .before .add-both .ensures) ∙ c .dx .given .1
+
+added : (c : tie.After-dx) → Added (c .before .before .before .args .xs .now) (c .dx .given .0 .0) × Added (c .before .before .before .args .ys .now) (c .dx .given .0 .1 .0)
+added c = subst (Summing _ _) (sums c) (summing _ _)
 
 add-both-requires : tie.Need-add-both-requires
 add-both-requires c κs = search needs
@@ -21,10 +24,10 @@ enum-known-dx : tie.Need-enum-known-dx
 enum-known-dx c = search needs
 
 moved-requires : tie.Need-moved-requires
-moved-requires c κs = added-small (sums-are _ _ _ _ (sums (c .before)) .0)
+moved-requires c κs = added-small (added (c .before) .0)
 
 moved-requires-2 : tie.Need-moved-requires-2
-moved-requires-2 c κs = added-small (sums-are _ _ _ _ (sums (c .before .before)) .1)
+moved-requires-2 c κs = added-small (added (c .before .before) .1)
 
 round-both-requires : tie.Need-round-both-requires
 round-both-requires c κs = search needs
