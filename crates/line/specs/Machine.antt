@@ -43,8 +43,9 @@ accepted s level =
 unfoldable pub holdsFrame : Receiver → Bool
 holdsFrame s = goodFrame (bitAt (windowImage (s .window)))
 
-abbrev pub silentOf : Receiver → Heard
-silentOf s = record { receiver = s; refusal = numbered success; frame = false; image = noImage }
+-- no frame to hand over: the state, a number and zero octets
+abbrev pub noFrame : Receiver → ℕ → Heard
+noFrame s n = record { receiver = s; refusal = numbered n; frame = false; image = noImage }
 
 -- the answer of a receiver that has taken a level: its window, if that is a good frame
 abbrev pub answerOf : Receiver → Heard
@@ -58,7 +59,7 @@ answerOf s =
 
 -- a refusal hands back the state that it was given
 abbrev pub refusedBy : Receiver → Heard
-refusedBy s = record { receiver = s; refusal = numbered badLevel; frame = false; image = noImage }
+refusedBy s = noFrame s badLevel
 
 abbrev pub heardOf : Receiver → ℕ → Heard
 heardOf s level = pick (refused level) (refusedBy s) (answerOf (accepted s level))

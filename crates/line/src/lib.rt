@@ -4,7 +4,7 @@ ghost use mathlib.Core.Path.{_≡_};
 ghost use Prim.Native.Nat.{_≤_};
 ghost use lib.ListN.{length};
 ghost use Rattle.line.specs.Levels.{differ};
-ghost use Rattle.line.specs.Machine.{pushed, windowImage, freshOf, accepted, silentOf, answerOf, heardOf};
+ghost use Rattle.line.specs.Machine.{pushed, windowImage, freshOf, accepted, noFrame, answerOf, heardOf};
 ghost use Rattle.line.specs.Sending.{next, levelsAfter, imageBits, Sent};
 use refusal::Refusal;
 
@@ -112,13 +112,13 @@ impl Receiver {
         }
     }
 
-    // No frame to hand over: zero octets.
-    fn silent(self) -> Heard
-        ensures { λ r. ⌜ r ≡ silentOf self ⌝ }
+    // No frame to hand over: the state, the number and zero octets.
+    fn no_frame(self, number: u8) -> Heard
+        ensures { λ r. ⌜ r ≡ noFrame self number ⌝ }
     {
         Heard {
             receiver: self,
-            refusal: Refusal::of(refusal::SUCCESS),
+            refusal: Refusal::of(number),
             frame: false,
             image: [0u8; 16],
         }
@@ -130,7 +130,7 @@ impl Receiver {
     {
         let window = self.window;
         if window.older >> 56 != 0 {
-            return self.silent();
+            return self.no_frame(refusal::SUCCESS);
         }
         let image = window.image();
         if frame::verdict(&image).number == refusal::SUCCESS {
@@ -141,7 +141,7 @@ impl Receiver {
                 image,
             };
         }
-        self.silent()
+        self.no_frame(refusal::SUCCESS)
     }
 
     // One level. A level that is neither 0 nor 1 is refused, 1, and counts for nothing.
@@ -149,12 +149,7 @@ impl Receiver {
         ensures { λ r. ⌜ r ≡ heardOf self level ⌝ }
     {
         if 1 < level {
-            return Heard {
-                receiver: self,
-                refusal: Refusal::of(refusal::BAD_LEVEL),
-                frame: false,
-                image: [0u8; 16],
-            };
+            return self.no_frame(refusal::BAD_LEVEL);
         }
         self.accept(level).answer()
     }

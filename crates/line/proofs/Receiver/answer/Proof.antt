@@ -10,7 +10,7 @@ use lib.Dec.{eqb, lit<}
 use lib.Pow.{shr-lt}
 use Rattle.bits.specs.Octets.{bitAt}
 use Rattle.frame.specs.Frame.{goodFrame, verdictOf}
-use Rattle.line.specs.Machine.{windowImage, holdsFrame, silentOf, answerOf}
+use Rattle.line.specs.Machine.{windowImage, holdsFrame, noFrame, answerOf}
 use Rattle.line.specs.declared.Heard.{Heard}
 use Rattle.line.specs.declared.Receiver.{Receiver}
 use Rattle.refusal.specs.Refusals.{numbered, success}
@@ -36,18 +36,18 @@ not-started s fits h = go (goodFrame (bitAt (windowImage (s .window)))) refl
     go true e =
         absurd (h (sym (mod-eq-of-lt (shr-lt 8 56 fits)) ∙ start-octet (windowImage (s .window)) e (mod-lt _ (lit< tt))))
 
-silent-is : (s : Receiver) → holdsFrame s ≡ false → silentOf s ≡ answerOf s
-silent-is s e = rw e
+none-is : (s : Receiver) → holdsFrame s ≡ false → noFrame s success ≡ answerOf s
+none-is s e = rw e
 
 handed-is : (s : Receiver) (r : Refusal) (image : List ℕ) → holdsFrame s ≡ true → r ≡ numbered success → image ≡ windowImage (s .window)
     → _≡_ {A = Heard} (record { receiver = s; refusal = r; frame = true; image = image }) (answerOf s)
 handed-is s r image e f g = rw (e, f, g)
 
-silent-requires : tie.Need-silent-requires
-silent-requires c κs = search needs
+no-frame-requires : tie.Need-no-frame-requires
+no-frame-requires c κs = search needs
 
 returns : tie.Need-returns
-returns c = c .silent .ensures ∙ silent-is _ (not-started _ (search needs) (c .before .if1 .taken))
+returns c = c .no-frame .ensures ∙ none-is _ (not-started _ (search needs) (c .before .if1 .taken))
 
 image-requires : tie.Need-image-requires
 image-requires c κs = search needs
@@ -67,26 +67,26 @@ returns-2 c =
     let i = c .before .before .before .before .before .image in
     handed-is _ _ _ (holds-is _ (i .result) true (i .ensures) (eq-eqb _ _ (sym (ap (λ (r : Refusal). r .number) (v .ensures)) ∙ c .before .if2 .taken))) (c .of .ensures) (i .ensures)
 
-silent-requires-2 : tie.Need-silent-requires-2
-silent-requires-2 c κs = search needs
+no-frame-requires-2 : tie.Need-no-frame-requires-2
+no-frame-requires-2 c κs = search needs
 
 returns-3 : tie.Need-returns-3
 returns-3 c =
     let v = c .before .before .before .verdict in
     let i = c .before .before .before .before .before .image in
-    c .silent2 .ensures
-    ∙ silent-is _ (holds-is _ (i .result) false (i .ensures) (ne-eqb _ _ (λ e. c .before .if2 .left (ap (λ (r : Refusal). r .number) (v .ensures) ∙ e))))
+    c .no-frame2 .ensures
+    ∙ none-is _ (holds-is _ (i .result) false (i .ensures) (ne-eqb _ _ (λ e. c .before .if2 .left (ap (λ (r : Refusal). r .number) (v .ensures) ∙ e))))
 
 pub answer-spec : {M : Type 1} → statement M
 answer-spec =
     tie.close
     (tie.spec
-    silent-requires
+    no-frame-requires
     returns
     image-requires
     slice-aggregate-verdict
     verdict-requires
     of-requires
     returns-2
-    silent-requires-2
+    no-frame-requires-2
     returns-3)

@@ -6,11 +6,11 @@ use Rattle.line.specs.Machine.{answerOf}
 use Rattle.line.proofs.Receiver.step.Statement.{statement}
 use Rattle.line.proofs.Receiver.step.Tie as tie
 
-of-requires : tie.Need-of-requires
-of-requires c κs = search needs
+no-frame-requires : tie.Need-no-frame-requires
+no-frame-requires c κs = search needs
 
 returns : tie.Need-returns
-returns c = rw (c .of .ensures, lt-ltb _ _ (c .before .if1 .taken))
+returns c = rw (lt-ltb _ _ (c .before .if1 .taken)) (c .no-frame .ensures)
 
 accept-requires : tie.Need-accept-requires
 accept-requires c κs = search needs
@@ -22,4 +22,4 @@ returns-2 : tie.Need-returns-2
 returns-2 c = rw (le-ltb _ _ (c .before .before .if1 .left)) (c .answer .ensures ∙ ap answerOf (c .before .accept .ensures))
 
 pub step-spec : {M : Type 1} → statement M
-step-spec = tie.close (tie.spec of-requires returns accept-requires answer-requires returns-2)
+step-spec = tie.close (tie.spec no-frame-requires returns accept-requires answer-requires returns-2)
