@@ -14,7 +14,7 @@ use Rattle.bits.specs.Octets.{bitAt}
 use Rattle.frame.specs.Frame.{startGood, marksGood, checksGood, columnOf, goodFrame}
 use Rattle.frame.specs.Words.{placeOf, wordOf, messageBit, dataBit, checkBit, groupBit, frameOf, imageOf}
 use Rattle.bits.proofs.TestLaws.{by-lt, every-all}
-use Rattle.bits.proofs.NumberLaws.{num-ext, num-of, num-lt, num-bit, sum-ext, sum-more}
+use Rattle.bits.proofs.NumberLaws.{num-ext, num-of, num-bit, sum-ext, sum-more}
 use Rattle.bits.proofs.OctetLaws.{bit-lt, bit-octets, length-octets, octets-bits, octets-ext}
 use Rattle.frame.proofs.FrameLaws.{good-ext, start-zero, mark-one, final-one, column-odd}
 
@@ -194,9 +194,6 @@ module _ (image : List ℕ) (size : length image ≡ 16) (octets : (k : ℕ) →
   pub image-back : imageOf (wordOf (bitAt image) 1) (wordOf (bitAt image) 2) ≡ image
   unfolding imageOf
   image-back = octets-ext 16 _ _ (frame-same (bitAt image) (bit-lt image) good) ∙ octets-bits image 16 size octets
-
-  pub word-lt : (k : ℕ) → wordOf (bitAt image) k < 2 ^ 49
-  word-lt k = num-lt _ 49 (λ i _. bit-lt image _)
 
 -- so no two good images share their words
 pub words-tell : (s t : List ℕ)

@@ -1,6 +1,7 @@
--- The receiver as it works: a window of the last 128 bits, one level at a time. Hearing.antt says what it must hand over.
+-- The receiver as it works: a window of the last 128 bits, one level at a time (01, 'Orders of checks': a state that goes in with one
+-- level and comes back with the answer). Hearing.antt says what it must hand over.
 use mathlib.Core.Bool.{Bool, true, false}
-use mathlib.Core.List.{List, [], _∷_}
+use mathlib.Core.List.{List, [], _∷_, _++_}
 use Prim.Native.Nat.{ℕ, _+_, _-_, _*_, _/_, _%_, _^_}
 use lib.ListN.{replicate}
 use Rattle.bits.specs.Tests.{pick}
@@ -16,13 +17,14 @@ use Rattle.line.specs.declared.Heard.{Heard}
 abbrev pub pushed : Window → ℕ → Window
 pushed w bit = record { older = w .older % 2 ^ 63 * 2 + w .newer / 2 ^ 63; newer = w .newer % 2 ^ 63 * 2 + bit }
 
--- the sixteen octets of a window
+-- the eight octets of a number, the most significant first; the sixteen of a window
+abbrev pub eightOf : ℕ → List ℕ
+eightOf n =
+    n / 2 ^ 56 % 256 ∷ n / 2 ^ 48 % 256 ∷ n / 2 ^ 40 % 256 ∷ n / 2 ^ 32 % 256
+    ∷ n / 2 ^ 24 % 256 ∷ n / 2 ^ 16 % 256 ∷ n / 2 ^ 8 % 256 ∷ n % 256 ∷ []
+
 abbrev pub windowImage : Window → List ℕ
-windowImage w =
-    w .older / 2 ^ 56 % 256 ∷ w .older / 2 ^ 48 % 256 ∷ w .older / 2 ^ 40 % 256 ∷ w .older / 2 ^ 32 % 256 ∷ w .older / 2 ^ 24 % 256
-    ∷ w .older / 2 ^ 16 % 256 ∷ w .older / 2 ^ 8 % 256 ∷ w .older % 256 ∷ w .newer / 2 ^ 56 % 256 ∷ w .newer / 2 ^ 48 % 256
-    ∷ w .newer / 2 ^ 40 % 256 ∷ w .newer / 2 ^ 32 % 256 ∷ w .newer / 2 ^ 24 % 256 ∷ w .newer / 2 ^ 16 % 256 ∷ w .newer / 2 ^ 8 % 256
-    ∷ w .newer % 256 ∷ []
+windowImage w = eightOf (w .older) ++ eightOf (w .newer)
 
 abbrev pub noImage : List ℕ
 noImage = replicate 16 0

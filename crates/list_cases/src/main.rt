@@ -17,6 +17,7 @@ fn main() {
     list(b"none");
     list(b"short");
     list(b"left");
+    list(b"mixed");
     list(b"pairs");
     list(b"refusals");
     list(b"damaged");

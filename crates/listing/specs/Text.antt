@@ -1,4 +1,4 @@
--- A number as decimal text, and a line of numbers. A text is a list of octets in ASCII.
+-- A number as decimal text, and a line of numbers (01, 'The listing program'). A text is a list of octets in ASCII.
 use Prim.Native.Char.{code}
 use Prim.Native.String.{String}
 use Prim.Native.String as text

@@ -1,4 +1,4 @@
--- What a function that puts a text into a lent buffer leaves there.
+-- What a function that puts a text into a lent buffer leaves there (01, 'How much a contract has to say': the content of each lent buffer).
 use Prim.Native.Nat.{ℕ, _+_}
 use mathlib.Core.Path.{_≡_}
 use mathlib.Core.List.{List, _++_}

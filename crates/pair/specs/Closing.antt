@@ -1,4 +1,4 @@
--- Closing a pair into a buffer, in 01's order: 2, 7, 8 first, 8 second.
+-- Closing a pair into a buffer, in 01's order ('Orders of checks'): 2, 7, 8 first, 8 second.
 use mathlib.Core.Path.{_≡_}
 use mathlib.Core.List.{List}
 use Prim.Native.Nat.{ℕ}

@@ -1,4 +1,4 @@
--- Opening an image, in 01's order: 2, 3, 4, 5, 6 first message, 6 second, 7, 8 first, 8 second.
+-- Opening an image, in 01's order ('Orders of checks'): 2, 3, 4, 5, 6 first message, 6 second, 7, 8 first, 8 second.
 use mathlib.Core.List.{List}
 use Prim.Native.Nat.{ℕ}
 use lib.Dec.{eqb}

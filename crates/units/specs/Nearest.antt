@@ -1,4 +1,4 @@
--- What the nearest step is, in 01's words and by no formula.
+-- What the nearest step is, in 01's words ('The shift') and by no formula.
 use mathlib.Core.Path.{_≡_}
 use Prim.Native.Nat.{ℕ, _+_, _*_, _≤_}
 use lib.IntN.{ℤ, pos, natAbs, _-ℤ_, _*ℤ_}
