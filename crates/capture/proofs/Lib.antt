@@ -1,2 +1,2 @@
 mod SieveLaws
-pub mod OneAnswer
+pub mod SearchLaws

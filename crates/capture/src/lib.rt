@@ -4,16 +4,14 @@ ghost use mathlib.Core.Path.{_≡_};
 ghost use Prim.Native.Nat.{_+_, _≤_, min};
 ghost use lib.ListN.{length};
 ghost use Rattle.frame.specs.Frame.{Lies};
-ghost use Rattle.capture.specs.Search.{refusalOf, positionOf, goodAt, Searched};
+ghost use Rattle.capture.specs.Search.{refusalOf, goodAt, searchOf};
 ghost use Rattle.capture.specs.Sieve.{Idle, Sifted, Within, Tried, Looked};
 use refusal::Refusal;
 
-// What a search answers: the position of the first good frame, or why there is none.
+// What a search answers: the position of the first good frame, or the refusal.
 pub enum Found {
     At(usize),
-    TooLong,
-    PastEnd,
-    NoFrame,
+    Refused(Refusal),
 }
 
 impl Found {
@@ -23,9 +21,7 @@ impl Found {
     {
         match self {
             Found::At(_) => Refusal::of(refusal::SUCCESS),
-            Found::TooLong => Refusal::of(refusal::BAD_LENGTH),
-            Found::PastEnd => Refusal::of(refusal::OUT_OF_RANGE),
-            Found::NoFrame => Refusal::of(refusal::NO_FRAME),
+            Found::Refused(r) => r,
         }
     }
 }
@@ -79,7 +75,7 @@ fn is_frame(capture: &[u8], i: usize, sieve: Sieve, q: usize) -> bool
     if (ones >> (7 - q % 8)) % 2 == 0 {
         return false;
     }
-    frame::verdict_at(capture, q) == refusal::SUCCESS
+    frame::verdict_at(capture, q).number == refusal::SUCCESS
 }
 
 // The least position from p on, below e, with a good frame, or e.
@@ -137,14 +133,14 @@ fn look(capture: &[u8], p: usize) -> Seen
 
 // The least position from `start` on at which a good frame lies whole: 2, 9, 10.
 pub fn search(capture: &[u8], start: usize) -> Found
-    ensures { λ r. ⌜ Searched (now (capture .entry)) start (refusalOf r) (positionOf r) ⌝ }
+    ensures { λ r. ⌜ r ≡ searchOf (now (capture .entry)) start ⌝ }
 {
     if 65536 < capture.len() {
-        return Found::TooLong;
+        return Found::Refused(Refusal::of(refusal::BAD_LENGTH));
     }
     let total = 8 * capture.len();
     if total < start {
-        return Found::PastEnd;
+        return Found::Refused(Refusal::of(refusal::OUT_OF_RANGE));
     }
     let mut p = start;
     while p + 128 <= total {
@@ -154,5 +150,5 @@ pub fn search(capture: &[u8], start: usize) -> Found
         }
         p = seen.at;
     }
-    Found::NoFrame
+    Found::Refused(Refusal::of(refusal::NO_FRAME))
 }

@@ -1,15 +1,18 @@
 // Track numbers and their texts.
 
 use crate::show;
+use link1::Tracked;
 
 fn number(text: &[u8]) {
     let tracked = link1::track_number(text);
     show::text(b"number of ");
     show::text(text);
     show::text(b": ");
-    show::refusal(tracked.refusal);
-    show::text(b" ");
-    show::number(tracked.number as u64);
+    show::refusal(tracked.refusal());
+    if let Tracked::Number(n) = tracked {
+        show::text(b" ");
+        show::number(n as u64);
+    }
     show::text(b"\n");
 }
 

@@ -1,7 +1,7 @@
 -- Laws of frames. Assumes nothing.
 use mathlib.Core.Path.{_≡_, refl, sym, ap, ap₂, _∙_}
 use mathlib.Core.Bool.{Bool, true, false}
-use mathlib.Core.List.{List}
+use mathlib.Core.List.{List, [], _∷_}
 use Prim.Native.Nat.{ℕ, _+_, _-_, _*_, _/_, _%_, _≤_, _<_}
 use native.Mathlib.Nat.{zero-add}
 use native.Mathlib.Omega.{arith}
@@ -9,12 +9,15 @@ use borrow.Author.Tests.{eqb-true, ne-eqb}
 use lib.Count.{ones}
 use lib.Dec.{eqb}
 use lib.ListN.{length, getD}
-use Rattle.bits.specs.Tests.{pick, both, every}
+use Rattle.bits.specs.Tests.{both, every}
 use Rattle.bits.specs.Numbers.{numOf}
 use Rattle.bits.specs.Octets.{bitAt}
-use Rattle.refusal.specs.Refusals.{success, badLength}
-use Rattle.frame.specs.Frame.{startGood, marksGood, checksGood, columnOf, goodFrame, frameVerdict, verdictOf, frameAt}
+use Rattle.refusal.specs.Refusals.{success, badLength, badStart, badMark, badCheck, numbered}
+use Rattle.refusal.specs.Checks.{check, firstRefusal}
+use Rattle.refusal.specs.declared.Refusal.{Refusal}
+use Rattle.frame.specs.Frame.{startGood, marksGood, checksGood, columnOf, goodFrame, frameVerdict, imageChecks, verdictOf, frameAt}
 use Rattle.bits.proofs.TestLaws.{by-lt, both-true, every-at, every-ext}
+use Rattle.refusal.proofs.CheckLaws.{Passed, success-passed}
 use Rattle.bits.proofs.NumberLaws.{num-ext, num-ones, sum-ext}
 use Rattle.bits.proofs.OctetLaws.{bit-lt, octet-back}
 
@@ -26,40 +29,43 @@ frame-0 s = λ i n. bitAt s (zero-add n i)
 pub column-ones : (s : List ℕ) (p j : ℕ) → ones (numOf (λ g. frameAt s p (8 * g + 9 + j)) 15) ≡ columnOf (frameAt s p) j
 column-ones s p j = num-ones (λ g. frameAt s p (8 * g + 9 + j)) 15 (λ g _. bit-lt s (p + (8 * g + 9 + j)))
 
--- ---- the verdict by its three tests
+-- ---- the verdict by its tests
 
-pub by-tests : (b : ℕ → ℕ) {s m k : Bool} → startGood b ≡ s → marksGood b ≡ m → checksGood b ≡ k
-    → frameVerdict b ≡ pick s (pick m (pick k 0 5) 4) 3
+-- the three tests, as they came out
+abbrev verdictBy : Bool → Bool → Bool → Refusal
+verdictBy s m k = firstRefusal (check s badStart ∷ check m badMark ∷ check k badCheck ∷ [])
+
+pub by-tests : (b : ℕ → ℕ) {s m k : Bool} → startGood b ≡ s → marksGood b ≡ m → checksGood b ≡ k → frameVerdict b ≡ verdictBy s m k
 unfolding frameVerdict
-by-tests b es em ek = λ i. pick (es i) (pick (em i) (pick (ek i) 0 5) 4) 3
+by-tests b es em ek = λ i. verdictBy (es i) (em i) (ek i)
 
-verdict-of : (s m k : Bool) → eqb (pick s (pick m (pick k 0 5) 4) 3) 0 ≡ both s (both m k)
+verdict-of : (s m k : Bool) → eqb (verdictBy s m k .number) success ≡ both s (both m k)
 verdict-of true true true = refl
 verdict-of true true false = refl
 verdict-of true false k = refl
 verdict-of false m k = refl
 
 -- success is said of good frames only
-pub verdict-good : (b : ℕ → ℕ) → eqb (frameVerdict b) 0 ≡ goodFrame b
+pub verdict-good : (b : ℕ → ℕ) → eqb (frameVerdict b .number) success ≡ goodFrame b
 unfolding frameVerdict goodFrame
 verdict-good b = verdict-of (startGood b) (marksGood b) (checksGood b)
 
 -- an image of another length, and one of sixteen octets
-pub verdict-length : (image : List ℕ) → (length image ≡ 16 → ⊥) → verdictOf image ≡ badLength
+pub verdict-length : (image : List ℕ) → (length image ≡ 16 → ⊥) → verdictOf image ≡ numbered badLength
 unfolding verdictOf
 verdict-length image h = rw (ne-eqb (length image) 16 h)
 
 pub verdict-image : (image : List ℕ) → length image ≡ 16 → verdictOf image ≡ frameVerdict (bitAt image)
-unfolding verdictOf
+unfolding verdictOf frameVerdict
 verdict-image image h = rw h
 
-pub verdict-size : (image : List ℕ) → verdictOf image ≡ success → length image ≡ 16
+-- what success says of an image
+pub verdict-passed : (image : List ℕ) → verdictOf image .number ≡ success → Passed (imageChecks image)
 unfolding verdictOf
-verdict-size image v = go (eqb (length image) 16) refl v
-  where
-    go : (t : Bool) → eqb (length image) 16 ≡ t → pick t (frameVerdict (bitAt image)) badLength ≡ success → length image ≡ 16
-    go true e q = eqb-true _ _ e
-    go false e q = absurd (omega arith)
+verdict-passed image v = success-passed (imageChecks image) refl v
+
+pub verdict-size : (image : List ℕ) → verdictOf image .number ≡ success → length image ≡ 16
+verdict-size image v = eqb-true _ _ (verdict-passed image v .0)
 
 -- ---- frames with the same 128 bits are alike
 

@@ -1,14 +1,16 @@
 -- What a good frame is (001, Annex A, Appendix 3, paragraphs 2 and 3; 01, 'From levels to a frame').
 -- A frame is given by its bits: b n is frame bit n, for n from 1 to 128.
 use mathlib.Core.Bool.{Bool}
-use mathlib.Core.List.{List}
+use mathlib.Core.List.{List, [], _∷_}
 use Prim.Native.Nat.{ℕ, _+_, _*_, _%_, _≤_}
 use lib.Dec.{eqb}
 use lib.ListN.{length}
-use Rattle.bits.specs.Tests.{pick, both, every}
+use Rattle.bits.specs.Tests.{both, every}
 use Rattle.bits.specs.Numbers.{sumOf}
 use Rattle.bits.specs.Octets.{bitAt}
-use Rattle.refusal.specs.Refusals.{success, badLength, badStart, badMark, badCheck}
+use Rattle.refusal.specs.Refusals.{badLength, badStart, badMark, badCheck}
+use Rattle.refusal.specs.Checks.{Check, check, firstRefusal}
+use Rattle.refusal.specs.declared.Refusal.{Refusal}
 
 -- paragraph 2a: bits 1 to 8, the start group, are zeros
 abbrev pub startGood : (ℕ → ℕ) → Bool
@@ -30,13 +32,19 @@ checksGood b = every (λ i. eqb (columnOf b (i + 1) % 2) 1) 6
 unfoldable pub goodFrame : (ℕ → ℕ) → Bool
 goodFrame b = both (startGood b) (both (marksGood b) (checksGood b))
 
--- what is wrong first, in 01's order 3, 4, 5, or success
-unfoldable pub frameVerdict : (ℕ → ℕ) → ℕ
-frameVerdict b = pick (startGood b) (pick (marksGood b) (pick (checksGood b) success badCheck) badMark) badStart
+-- 01's order, 3, 4, 5: what is wrong first, or success
+abbrev pub frameChecks : (ℕ → ℕ) → List Check
+frameChecks b = check (startGood b) badStart ∷ check (marksGood b) badMark ∷ check (checksGood b) badCheck ∷ []
 
--- house rule: an image is 16 octets, bit 1 in the most significant place of the first
-unfoldable pub verdictOf : List ℕ → ℕ
-verdictOf image = pick (eqb (length image) 16) (frameVerdict (bitAt image)) badLength
+unfoldable pub frameVerdict : (ℕ → ℕ) → Refusal
+frameVerdict b = firstRefusal (frameChecks b)
+
+-- house rule: an image is 16 octets, bit 1 in the most significant place of the first; 2, 3, 4, 5
+abbrev pub imageChecks : List ℕ → List Check
+imageChecks image = check (eqb (length image) 16) badLength ∷ frameChecks (bitAt image)
+
+unfoldable pub verdictOf : List ℕ → Refusal
+verdictOf image = firstRefusal (imageChecks image)
 
 -- the frame whose first bit has position p in a run of octets; the octets' first bit has position 0
 abbrev pub frameAt : List ℕ → ℕ → ℕ → ℕ

@@ -6,7 +6,6 @@ ghost use Prim.Native.Nat.{_+_, _*_, _≤_, _<_};
 ghost use lib.ListN.{length};
 ghost use Rattle.bits.specs.Numbers.{numOf, written};
 ghost use Rattle.bits.specs.Octets.{bitAt};
-ghost use Rattle.refusal.specs.Refusals.{numbered};
 ghost use Rattle.frame.specs.Frame.{startGood, marksGood, checksGood, frameVerdict, verdictOf, frameAt, Lies};
 ghost use Rattle.frame.specs.Words.{placeOf, wordOf, imageOf};
 ghost use Rattle.frame.specs.Packing.{dataOctet, checkOctet};
@@ -72,30 +71,30 @@ fn is_checked(octets: &[u8], position: usize) -> bool
 }
 
 // What is wrong first with the frame at a position, or success. The check bits are counted last.
-pub fn verdict_at(octets: &[u8], position: usize) -> u8
+pub fn verdict_at(octets: &[u8], position: usize) -> Refusal
     requires { ⌜ Lies (now octets) position ⌝ }
     ensures { λ r. ⌜ r ≡ frameVerdict (frameAt (now (octets .entry)) position) ⌝ }
 {
     if !is_started(octets, position) {
-        return refusal::BAD_START;
+        return Refusal::of(refusal::BAD_START);
     }
     if !is_marked(octets, position) {
-        return refusal::BAD_MARK;
+        return Refusal::of(refusal::BAD_MARK);
     }
     if !is_checked(octets, position) {
-        return refusal::BAD_CHECK;
+        return Refusal::of(refusal::BAD_CHECK);
     }
-    refusal::SUCCESS
+    Refusal::of(refusal::SUCCESS)
 }
 
 // What is wrong first with an image, or success: 2, 3, 4, 5.
 pub fn verdict(image: &[u8]) -> Refusal
-    ensures { λ r. ⌜ r ≡ numbered (verdictOf (now (image .entry))) ⌝ }
+    ensures { λ r. ⌜ r ≡ verdictOf (now (image .entry)) ⌝ }
 {
     if image.len() != 16 {
         return Refusal::of(refusal::BAD_LENGTH);
     }
-    Refusal::of(verdict_at(image, 0))
+    verdict_at(image, 0)
 }
 
 // The frame bit of bit i of message k.

@@ -4,24 +4,25 @@ use mathlib.Core.Bool.{Bool, true, false}
 use mathlib.Core.List.{List, [], _∷_, _++_, map, append-assoc}
 use Prim.Native.Nat.{ℕ, _+_, _-_, _≤_, _<_}
 use native.Mathlib.Omega.{arith}
-use borrow.Author.Tests.{le-ltb, le-leb, ltb-false, leb-true, eqb-true, eq-eqb}
-use lib.Dec.{leb, eqb}
+use borrow.Author.Tests.{le-ltb, le-leb, ltb-false, leb-true, eqb-true, not-true}
+use lib.Dec.{leb}
 use lib.ListN.{length, getD, length-append, List·getD-append}
 use lib.Seq.{getD-append-add}
 use Rattle.bits.specs.Tests.{pick, both}
 use Rattle.bits.specs.Octets.{bitAt, octetsOf}
 use Rattle.refusal.specs.Refusals.{numbered, success}
 use Rattle.refusal.specs.declared.Refusal.{Refusal}
-use Rattle.frame.specs.Frame.{goodFrame, frameVerdict}
+use Rattle.frame.specs.Frame.{goodFrame}
 use Rattle.line.specs.Levels.{refused, kept, bitsAfter, bitsOf, decoded}
 use Rattle.line.specs.Machine.{refusedBy, heardOf, run}
 use Rattle.line.specs.Hearing.{lastFrame, endsGood, toldOf, told, swap}
-use Rattle.line.specs.Sending.{levelsAfter, imageBits, sendNumber, sendLevels}
+use Rattle.line.specs.Sending.{levelsAfter, imageBits, sendChecks, sendRefusal, sendLevels}
 use Rattle.line.specs.declared.Heard.{Heard}
 use Rattle.bits.proofs.TestLaws.{both-true, clash}
 use Rattle.bits.proofs.NumberLaws.{length-tab, getD-tab}
 use Rattle.bits.proofs.OctetLaws.{bit-lt, octets-bits, octets-ext}
-use Rattle.frame.proofs.FrameLaws.{good-ext, verdict-good, apart}
+use Rattle.refusal.proofs.CheckLaws.{Passed, success-passed, given}
+use Rattle.frame.proofs.FrameLaws.{good-ext, apart}
 use Rattle.line.proofs.WindowLaws.{Bits, more, bits-tab}
 use Rattle.line.proofs.LevelLaws.{lastOf, bits-append, length-bits, kept-append, kept-snoc, kept-all, bits-last, refused-swap, decoded-swap, told-bits, levels-bits}
 use Rattle.line.proofs.Holding.{heard-told}
@@ -150,18 +151,21 @@ wires-swapped ls l =
 
 -- ---- what is sent is heard
 
--- what success says of the input
-module _ (image : List ℕ) (previous : ℕ) (buffer : List ℕ) (sent : sendNumber image previous buffer ≡ success) where
-  checked : (length image ≡ 16) × (previous ≤ 1) × (frameVerdict (bitAt image) ≡ 0)
-  unfolding sendNumber
-  checked = go (eqb (length image) 16) refl (eqb (length buffer) 128) (refused previous) refl sent
-    where
-      go : (a : Bool) → eqb (length image) 16 ≡ a → (b c : Bool) → refused previous ≡ c → pick a (pick b (pick c 1 (frameVerdict (bitAt image))) 2) 2 ≡ 0
-          → (length image ≡ 16) × (previous ≤ 1) × (frameVerdict (bitAt image) ≡ 0)
-      go true e true false q v = (eqb-true _ _ e, ltb-false 1 previous q, v)
-      go true e true true q v = absurd (omega arith)
-      go true e false c q v = absurd (omega arith)
-      go false e b c q v = absurd (omega arith)
+module _ (image : List ℕ) (previous : ℕ) (buffer : List ℕ) (sent : sendRefusal image previous buffer ≡ numbered success) where
+  -- what success says of the input
+  passed : Passed (sendChecks image previous buffer)
+  unfolding sendRefusal
+  passed = success-passed (sendChecks image previous buffer) refl (ap (λ (r : Refusal). r .number) sent)
+
+  size : length image ≡ 16
+  size = eqb-true _ _ (passed .0)
+
+  level : previous ≤ 1
+  level = ltb-false 1 previous (not-true _ (passed .1 .1 .0))
+
+  good-image : goodFrame (bitAt image) ≡ true
+  unfolding goodFrame
+  good-image = let p = passed .1 .1 .1 in λ i. both (p .0 i) (both (p .1 .0 i) (p .1 .1 .0 i))
 
   -- the image's bits as a list are its frame
   image-frame : (n : ℕ) → 1 ≤ n → n ≤ 128 → frameIn (imageBits image) n ≡ bitAt image n
@@ -170,7 +174,7 @@ module _ (image : List ℕ) (previous : ℕ) (buffer : List ℕ) (sent : sendNum
 
   levels-sent : sendLevels image previous buffer ≡ levelsAfter previous (imageBits image)
   unfolding sendLevels
-  levels-sent = rw sent
+  levels-sent = given (sendRefusal image previous buffer) _ _ (ap (λ (r : Refusal). r .number) sent)
 
   image-bits : Bits (imageBits image)
   image-bits = bits-tab (λ i. bitAt image (i + 1)) 128 (λ i. omega (arith, bit-lt image (i + 1)))
@@ -180,9 +184,9 @@ module _ (image : List ℕ) (previous : ℕ) (buffer : List ℕ) (sent : sendNum
       → heardOf (run ls) l ≡ handed (ls ++ l ∷ []) image
   sent-heard octet ls l e =
       let levels : ls ++ l ∷ [] ≡ previous ∷ levelsAfter previous (imageBits image) = e ∙ ap (λ (t : List ℕ). previous ∷ t) levels-sent in
-      let all : Bits (ls ++ l ∷ []) = rw levels (more (checked .1) (levels-bits previous (imageBits image) (checked .1))) in
-      let bits : decoded (ls ++ l ∷ []) ≡ imageBits image = rw (kept-all all, levels) (told-bits previous (checked .1) image-bits) in
+      let all : Bits (ls ++ l ∷ []) = rw levels (more level (levels-bits previous (imageBits image) level)) in
+      let bits : decoded (ls ++ l ∷ []) ≡ imageBits image = rw (kept-all all, levels) (told-bits previous level image-bits) in
       let good : goodFrame (frameIn (imageBits image)) ≡ true =
-      good-ext _ _ image-frame ∙ sym (verdict-good (bitAt image)) ∙ eq-eqb _ 0 (checked .2) in
+      good-ext _ _ image-frame ∙ good-image in
       heard-on-last-bit ls l [] (imageBits image) (bits-last ls l all) bits (length-tab _ 128) good
-      ∙ ap (handed (ls ++ l ∷ [])) (octets-ext 16 _ _ image-frame ∙ octets-bits image 16 (checked .0) octet)
+      ∙ ap (handed (ls ++ l ∷ [])) (octets-ext 16 _ _ image-frame ∙ octets-bits image 16 size octet)

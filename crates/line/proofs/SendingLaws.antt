@@ -7,39 +7,41 @@ use native.Mathlib.Omega.{arith}
 use borrow.Author.Tests.{ne-eqb, lt-ltb, le-ltb}
 use lib.ListN.{length, take, getD, set, length-set}
 use lib.Seq.{take-suc, take-suc-set, take-all}
-use Rattle.refusal.specs.Refusals.{success, badLevel, badLength}
-use Rattle.frame.specs.Frame.{verdictOf}
-use Rattle.line.specs.Sending.{next, levelsAfter, imageBits, sendNumber, sendLevels}
+use Rattle.refusal.specs.Refusals.{success, badLevel, badLength, numbered}
+use Rattle.refusal.specs.declared.Refusal.{Refusal}
+use Rattle.frame.specs.Frame.{frameVerdict, verdictOf}
+use Rattle.line.specs.Sending.{next, levelsAfter, imageBits, sendRefusal, sendLevels}
+use Rattle.refusal.proofs.CheckLaws.{given, left}
 use Rattle.frame.proofs.FrameLaws.{verdict-image}
 use Rattle.line.proofs.LevelLaws.{lastOf, last-snoc, levels-snoc}
 
 -- ---- the checks in their order
 
 module _ (image : List ℕ) (previous : ℕ) (buffer : List ℕ) where
-  pub bad-image : (length image ≡ 16 → ⊥) → sendNumber image previous buffer ≡ badLength
-  unfolding sendNumber
+  pub bad-image : (length image ≡ 16 → ⊥) → sendRefusal image previous buffer ≡ numbered badLength
+  unfolding sendRefusal
   bad-image h = rw (ne-eqb _ _ h)
 
-  pub bad-buffer : length image ≡ 16 → (length buffer ≡ 128 → ⊥) → sendNumber image previous buffer ≡ badLength
-  unfolding sendNumber
+  pub bad-buffer : length image ≡ 16 → (length buffer ≡ 128 → ⊥) → sendRefusal image previous buffer ≡ numbered badLength
+  unfolding sendRefusal
   bad-buffer a h = rw (a, ne-eqb _ _ h)
 
-  pub bad-previous : length image ≡ 16 → length buffer ≡ 128 → 1 < previous → sendNumber image previous buffer ≡ badLevel
-  unfolding sendNumber
+  pub bad-previous : length image ≡ 16 → length buffer ≡ 128 → 1 < previous → sendRefusal image previous buffer ≡ numbered badLevel
+  unfolding sendRefusal
   bad-previous a b h = rw (a, b, lt-ltb 1 previous h)
 
-  pub by-verdict : length image ≡ 16 → length buffer ≡ 128 → previous ≤ 1 → sendNumber image previous buffer ≡ verdictOf image
-  unfolding sendNumber
+  pub by-verdict : length image ≡ 16 → length buffer ≡ 128 → previous ≤ 1 → sendRefusal image previous buffer ≡ verdictOf image
+  unfolding sendRefusal frameVerdict
   by-verdict a b h = rw (a, b, le-ltb 1 previous h) (sym (verdict-image image a))
 
-  -- on a refusal the buffer stays
-  pub buffer-stays : (n : ℕ) → sendNumber image previous buffer ≡ n → (n ≡ success → ⊥) → buffer ≡ sendLevels image previous buffer
+  -- the buffer by the refusal
+  pub buffer-stays : (r : Refusal) → sendRefusal image previous buffer ≡ r → (r .number ≡ success → ⊥) → buffer ≡ sendLevels image previous buffer
   unfolding sendLevels
-  buffer-stays n e h = rw (e, ne-eqb n 0 h)
+  buffer-stays r e h = sym (left (sendRefusal image previous buffer) _ _ (λ q. h (sym (ap (λ (x : Refusal). x .number) e) ∙ q)))
 
-  pub buffer-written : sendNumber image previous buffer ≡ success → levelsAfter previous (imageBits image) ≡ sendLevels image previous buffer
+  pub buffer-written : sendRefusal image previous buffer .number ≡ success → levelsAfter previous (imageBits image) ≡ sendLevels image previous buffer
   unfolding sendLevels
-  buffer-written e = rw e
+  buffer-written e = sym (given (sendRefusal image previous buffer) _ _ e)
 
 -- ---- the loop
 

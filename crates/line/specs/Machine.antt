@@ -46,8 +46,8 @@ unfoldable pub holdsFrame : Receiver → Bool
 holdsFrame s = goodFrame (bitAt (windowImage (s .window)))
 
 -- no frame to hand over: the state, a number and zero octets
-abbrev pub noFrame : Receiver → ℕ → Heard
-noFrame s n = record { receiver = s; refusal = numbered n; frame = false; image = noImage }
+abbrev pub nothingHeard : Receiver → ℕ → Heard
+nothingHeard s n = record { receiver = s; refusal = numbered n; frame = false; image = noImage }
 
 -- the answer of a receiver that has taken a level: its window, if that is a good frame
 abbrev pub answerOf : Receiver → Heard
@@ -61,7 +61,7 @@ answerOf s =
 
 -- a refusal hands back the state that it was given
 abbrev pub refusedBy : Receiver → Heard
-refusedBy s = noFrame s badLevel
+refusedBy s = nothingHeard s badLevel
 
 abbrev pub heardOf : Receiver → ℕ → Heard
 heardOf s level = pick (refused level) (refusedBy s) (answerOf (accepted s level))

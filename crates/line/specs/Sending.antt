@@ -1,5 +1,6 @@
 -- What is sent for an image (001, Annex A, Appendix 3, paragraph 4; 01, 'Orders of checks').
 use mathlib.Core.Path.{_≡_}
+use mathlib.Core.Bool.{not}
 use mathlib.Core.List.{List, [], _∷_}
 use Prim.Native.Nat.{ℕ, _+_, _-_}
 use lib.Dec.{eqb}
@@ -7,9 +8,10 @@ use lib.ListN.{length}
 use Rattle.bits.specs.Tests.{pick}
 use Rattle.bits.specs.Numbers.{tab}
 use Rattle.bits.specs.Octets.{bitAt}
-use Rattle.refusal.specs.Refusals.{numbered, success, badLevel, badLength}
+use Rattle.refusal.specs.Refusals.{badLevel, badLength, badStart, badMark, badCheck}
+use Rattle.refusal.specs.Checks.{Check, check, firstRefusal, onSuccess}
 use Rattle.refusal.specs.declared.Refusal.{Refusal}
-use Rattle.frame.specs.Frame.{frameVerdict}
+use Rattle.frame.specs.Frame.{startGood, marksGood, checksGood}
 use Rattle.line.specs.Levels.{refused}
 
 -- a one changes the level, a zero keeps it
@@ -25,21 +27,25 @@ levelsAfter level (b ∷ bs) = next level b ∷ levelsAfter (next level b) bs
 abbrev pub imageBits : List ℕ → List ℕ
 imageBits image = tab (λ i. bitAt image (i + 1)) 128
 
--- 2 image, 2 buffer, 1, 3, 4, 5, or success
-unfoldable pub sendNumber : List ℕ → ℕ → List ℕ → ℕ
-sendNumber image previous buffer =
-    pick (eqb (length image) 16)
-    (pick (eqb (length buffer) 128)
-    (pick (refused previous) badLevel (frameVerdict (bitAt image)))
-    badLength)
-    badLength
+-- 2 image, 2 buffer, 1, 3, 4, 5
+abbrev pub sendChecks : List ℕ → ℕ → List ℕ → List Check
+sendChecks image previous buffer =
+    check (eqb (length image) 16) badLength
+    ∷ check (eqb (length buffer) 128) badLength
+    ∷ check (not (refused previous)) badLevel
+    ∷ check (startGood (bitAt image)) badStart
+    ∷ check (marksGood (bitAt image)) badMark
+    ∷ check (checksGood (bitAt image)) badCheck
+    ∷ []
 
--- what then stands in the buffer: on a refusal, what stood there
+unfoldable pub sendRefusal : List ℕ → ℕ → List ℕ → Refusal
+sendRefusal image previous buffer = firstRefusal (sendChecks image previous buffer)
+
+-- what then stands in the buffer: the levels, or on a refusal what stood there
 unfoldable pub sendLevels : List ℕ → ℕ → List ℕ → List ℕ
-sendLevels image previous buffer =
-    pick (eqb (sendNumber image previous buffer) success) (levelsAfter previous (imageBits image)) buffer
+sendLevels image previous buffer = onSuccess (sendRefusal image previous buffer) (levelsAfter previous (imageBits image)) buffer
 
 -- the refusal that comes back, and the buffer afterwards
 abbrev pub Sent : List ℕ → ℕ → List ℕ → Refusal → List ℕ → Type 0
 Sent image previous buffer refusal after =
-    (refusal ≡ numbered (sendNumber image previous buffer)) × (after ≡ sendLevels image previous buffer)
+    (refusal ≡ sendRefusal image previous buffer) × (after ≡ sendLevels image previous buffer)

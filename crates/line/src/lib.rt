@@ -4,7 +4,7 @@ ghost use mathlib.Core.Path.{_≡_};
 ghost use Prim.Native.Nat.{_≤_};
 ghost use lib.ListN.{length};
 ghost use Rattle.line.specs.Levels.{differ};
-ghost use Rattle.line.specs.Machine.{pushed, windowImage, freshOf, accepted, noFrame, answerOf, heardOf};
+ghost use Rattle.line.specs.Machine.{pushed, windowImage, freshOf, accepted, nothingHeard, answerOf, heardOf};
 ghost use Rattle.line.specs.Sending.{next, levelsAfter, imageBits, Sent};
 use refusal::Refusal;
 
@@ -113,8 +113,8 @@ impl Receiver {
     }
 
     // No frame to hand over: the state, the number and zero octets.
-    fn no_frame(self, number: u8) -> Heard
-        ensures { λ r. ⌜ r ≡ noFrame self number ⌝ }
+    fn hear_nothing(self, number: u8) -> Heard
+        ensures { λ r. ⌜ r ≡ nothingHeard self number ⌝ }
     {
         Heard {
             receiver: self,
@@ -130,7 +130,7 @@ impl Receiver {
     {
         let window = self.window;
         if window.older >> 56 != 0 {
-            return self.no_frame(refusal::SUCCESS);
+            return self.hear_nothing(refusal::SUCCESS);
         }
         let image = window.image();
         if frame::verdict(&image).number == refusal::SUCCESS {
@@ -141,7 +141,7 @@ impl Receiver {
                 image,
             };
         }
-        self.no_frame(refusal::SUCCESS)
+        self.hear_nothing(refusal::SUCCESS)
     }
 
     // One level. A level that is neither 0 nor 1 is refused, 1, and counts for nothing.
@@ -149,7 +149,7 @@ impl Receiver {
         ensures { λ r. ⌜ r ≡ heardOf self level ⌝ }
     {
         if 1 < level {
-            return self.no_frame(refusal::BAD_LEVEL);
+            return self.hear_nothing(refusal::BAD_LEVEL);
         }
         self.accept(level).answer()
     }

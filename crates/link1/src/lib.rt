@@ -32,14 +32,14 @@ pub use message::Message;
 pub use message::Mode;
 pub use message::Strobe;
 pub use message::Track;
-pub use message::Tracked;
 pub use message::kind_of;
 pub use message::label;
-pub use message::track_number;
-pub use message::track_text;
 pub use pair::Opened;
 pub use pair::close;
 pub use pair::open;
+pub use track::Tracked;
+pub use track::track_number;
+pub use track::track_text;
 
 // Feet and steps, the altitude and the shift.
 pub use shift::Shifted;

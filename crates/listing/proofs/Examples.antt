@@ -5,11 +5,9 @@ use mathlib.Core.List.{List, [], _∷_, _++_, map}
 use Prim.Native.Nat.{ℕ}
 use Rattle.bits.specs.Tests.{every}
 use Rattle.bits.specs.Numbers.{numOf, sumOf}
-use Rattle.frame.specs.Frame.{verdictOf, frameVerdict}
 use Rattle.link1.proofs.Examples.{imageT, imageN}
-use Rattle.message.specs.Codec.{contentOf}
 use Rattle.pair.specs.Pairs.{pairOf}
-use Rattle.pair.specs.Opening.{openContents, openWords, openOf}
+use Rattle.pair.specs.Opening.{openRefusal, openOf}
 use Rattle.listing.specs.Text.{octets, decBy, dec, decThen, row}
 use Rattle.listing.specs.Listing.{imageAt, imageLine, imageLines, lastLine, listingOf}
 
@@ -25,5 +23,5 @@ examples =
 
 pub examples-listed : map (λ (e : Example). listingOf (e .log)) examples ≡ map (λ (e : Example). octets (e .text)) examples
 unfolding listingOf imageLines imageAt imageLine lastLine row decThen dec decBy
-    openOf openWords openContents contentOf pairOf verdictOf frameVerdict every sumOf numOf
+    openOf openRefusal pairOf every sumOf numOf
 examples-listed = refl

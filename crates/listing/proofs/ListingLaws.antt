@@ -1,36 +1,18 @@
 -- Laws of the lines of a listing. Assumes nothing.
-use mathlib.Core.Path.{_≡_, refl, sym, ap, _∙_}
-use mathlib.Core.List.{List, [], _∷_, _++_}
+use mathlib.Core.Path.{_≡_, sym, ap, _∙_}
+use mathlib.Core.List.{List, _++_}
 use Prim.Native.Nat.{ℕ, _+_, _*_, _/_, _%_, _≤_, _<_}
 use native.Mathlib.Numerals.{add-one}
 use native.Mathlib.Omega.{arith}
 use borrow.Author.Tests.{lt-ltb, le-ltb}
-use denote.Enum.Declared.{tagOf}
-use types.Run.{OneOf, miss}
 use lib.ListN.{length, take, drop}
 use Rattle.pair.specs.Opening.{openOf}
-use Rattle.pair.proofs.Opened.{the-type}
 use Rattle.pair.specs.declared.Opened.{Opened}
-use Rattle.pair.specs.declared.Opened.the-variants.{Pair, BadLength, BadStart, BadMark, BadCheck}
-use Rattle.pair.specs.declared.Opened.the-variants.{FirstUnknown, SecondUnknown, BadPair, FirstBad, SecondBad}
 use Rattle.listing.specs.Text.{row}
 use Rattle.listing.specs.Wrote.{Wrote}
-use Rattle.listing.specs.Listing.{header, tooLong, refused, numbersOf, imageLine, imageLines, imageAt, lastLine, listingOf}
+use Rattle.listing.specs.Listing.{header, tooLong, numbersOf, imageLine, imageLines, imageAt, lastLine, listingOf}
 use Rattle.listing.proofs.WroteLaws.{put-put, put-as}
 use Rattle.listing.proofs.TextLaws.{Below, row-short}
-
--- the code knows an answer that is no pair by its tag
-pub refused-numbers : (n : ℕ) (o : Opened) → OneOf (1 ∷ 2 ∷ 3 ∷ 4 ∷ 5 ∷ 6 ∷ 7 ∷ 8 ∷ 9 ∷ []) (tagOf the-type o) → refused n o ≡ numbersOf n o
-refused-numbers n (Pair first second) h = absurd (miss (1 ∷ 2 ∷ 3 ∷ 4 ∷ 5 ∷ 6 ∷ 7 ∷ 8 ∷ 9 ∷ []) 0 tt h)
-refused-numbers n BadLength h = refl
-refused-numbers n BadStart h = refl
-refused-numbers n BadMark h = refl
-refused-numbers n BadCheck h = refl
-refused-numbers n FirstUnknown h = refl
-refused-numbers n SecondUnknown h = refl
-refused-numbers n BadPair h = refl
-refused-numbers n FirstBad h = refl
-refused-numbers n SecondBad h = refl
 
 -- a line of at most four small numbers that are an image's is the image's line
 pub image-put : (d : List ℕ) (at n : ℕ) (o : Opened) {xs g : List ℕ} {t : ℕ} → xs ≡ numbersOf n o → Below 10000 xs → length xs ≤ 4

@@ -7,7 +7,7 @@ use native.Mathlib.Numerals.{add-one}
 use native.Mathlib.Omega.{arith}
 use lib.ListN.{length, take, drop, set, length-append, length-drop, drop-of-length-le}
 use lib.Seq.{take-all, take-at, drop-at, paste-zero, drop-drop, take-length, set-split, length-take-le, append-snoc}
-use Rattle.listing.specs.Wrote.{Wrote, written}
+use Rattle.listing.specs.Wrote.{Wrote, pasted}
 
 -- what stands before a text and the text itself
 head-length : (d : List ℕ) (at : ℕ) (xs : List ℕ) → at + length xs ≤ length d → length (take at d ++ xs) ≡ at + length xs
@@ -15,7 +15,7 @@ head-length d at xs h = length-append (take at d) xs ∙ ap (λ (k : ℕ). k + l
 
 -- nothing is put
 pub put-none : (d : List ℕ) (at : ℕ) → Wrote d at [] d at
-unfolding written
+unfolding pasted
 put-none d at = record { next = sym (add-zero at); text = paste-zero d at [] }
 
 -- the same text by another name
@@ -24,7 +24,7 @@ put-as {d} {xs} {ys} {e} {at} {r} same w = subst (λ (t : List ℕ). Wrote d at 
 
 -- one text after another is the two together
 pub put-put : {d xs ys e f : List ℕ} {at r s : ℕ} → r ≤ length d → Wrote d at xs e r → Wrote e r ys f s → Wrote d at (xs ++ ys) f s
-unfolding written
+unfolding pasted
 put-put {d} {xs} {ys} {e} {f} {at} {r} {s} h w v =
     let hd : length (take at d ++ xs) ≡ r = head-length d at xs (omega (arith, w .next)) ∙ sym (w .next) in
     let tk : take r e ≡ take at d ++ xs = ap (take r) (w .text) ∙ take-at (take at d ++ xs) (drop (at + length xs) d) r hd in
@@ -42,7 +42,7 @@ put-put {d} {xs} {ys} {e} {f} {at} {r} {s} h w v =
 
 -- a store is a text of one octet
 pub put-one : (d : List ℕ) (at b : ℕ) → at < length d → Wrote d at (b ∷ []) (set d at b) (at + 1)
-unfolding written
+unfolding pasted
 put-one d at b h =
     record {
       next = refl;
@@ -53,8 +53,8 @@ put-one d at b h =
 -- what `bytes::copy` into the part from at on leaves
 pub put-copy : (d : List ℕ) (at : ℕ) (xs : List ℕ) → at + length xs ≤ length d
     → take at d ++ ((take (length xs) xs ++ drop (length xs) (take (length d - at) (drop at d))) ++ drop (length d - at) (drop at d))
-    ≡ written d at xs
-unfolding written
+    ≡ pasted d at xs
+unfolding pasted
 put-copy d at xs h =
     let whole : take (length d - at) (drop at d) ≡ drop at d = take-all (length d - at) (drop at d) (omega (arith, length-drop at d)) in
     let ends : length (drop at d) ≤ length d - at = omega (arith, length-drop at d) in

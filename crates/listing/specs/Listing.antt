@@ -4,34 +4,22 @@ use mathlib.Core.List.{List, [], _∷_, _++_}
 use lib.ListN.{length, take, drop}
 use lib.Dec.{ltb}
 use Rattle.bits.specs.Tests.{pick}
+use Rattle.refusal.specs.Refusals.{success}
 use Rattle.message.specs.Layouts.{labelOf}
 use Rattle.message.specs.Messages.{kindOf}
-use Rattle.pair.specs.Opening.{refusalOf, openOf}
+use Rattle.pair.specs.Opening.{openOf}
 use Rattle.pair.specs.declared.Opened.{Opened}
-use Rattle.pair.specs.declared.Opened.the-variants.{Pair, BadLength, BadStart, BadMark, BadCheck}
-use Rattle.pair.specs.declared.Opened.the-variants.{FirstUnknown, SecondUnknown, BadPair, FirstBad, SecondBad}
+use Rattle.pair.specs.declared.Opened.the-variants.{Pair, Refused}
 use Rattle.listing.specs.Text.{octets, row}
 
 -- 'the header LINK1'
 abbrev pub header : List ℕ
 header = octets "LINK1\n"
 
--- 'else the refusal and place'
-abbrev pub refused : ℕ → Opened → List ℕ
-refused n opened = n ∷ refusalOf opened .number ∷ refusalOf opened .place ∷ []
-
 -- 'per image its number from 1 and, if opened, 0 and both labels, else the refusal and place'
 abbrev pub numbersOf : ℕ → Opened → List ℕ
-numbersOf n (Pair first second) = n ∷ 0 ∷ labelOf (kindOf first) ∷ labelOf (kindOf second) ∷ []
-numbersOf n BadLength = refused n BadLength
-numbersOf n BadStart = refused n BadStart
-numbersOf n BadMark = refused n BadMark
-numbersOf n BadCheck = refused n BadCheck
-numbersOf n FirstUnknown = refused n FirstUnknown
-numbersOf n SecondUnknown = refused n SecondUnknown
-numbersOf n BadPair = refused n BadPair
-numbersOf n FirstBad = refused n FirstBad
-numbersOf n SecondBad = refused n SecondBad
+numbersOf n (Pair first second) = n ∷ success ∷ labelOf (kindOf first) ∷ labelOf (kindOf second) ∷ []
+numbersOf n (Refused r) = n ∷ r .number ∷ r .place ∷ []
 
 -- the line of image n
 unfoldable pub imageLine : ℕ → Opened → List ℕ

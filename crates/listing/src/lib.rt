@@ -74,11 +74,10 @@ fn put_image(out: &mut [u8], at: usize, n: u64, opened: Opened) -> usize
     ensures { λ r. ⌜ Wrote (now (out .entry)) at (imageLine n opened) (now (out .exit)) r ⌝ }
     ensures { λ r. ⌜ r ≤ at + 20 ⌝ }
 {
-    let Opened::Pair(first, second) = opened else {
-        let refused = opened.refusal();
-        return put_row(out, at, &[n, wide(refused.number), wide(refused.place)]);
-    };
-    put_row(out, at, &[n, 0, label(first), label(second)])
+    match opened {
+        Opened::Pair(first, second) => put_row(out, at, &[n, 0, label(first), label(second)]),
+        Opened::Refused(r) => put_row(out, at, &[n, wide(r.number), wide(r.place)]),
+    }
 }
 
 // Puts the last line: END, the images listed and the octets left over.

@@ -1,3 +1,2 @@
 pub mod TableLaws
-pub mod TextLaws
 pub mod RoundTrip

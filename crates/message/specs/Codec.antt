@@ -11,6 +11,7 @@ use Rattle.bits.specs.declared.Packed.{Packed}
 use Rattle.message.specs.Layouts.{labelOf, layoutOf, wholeOf, allKinds}
 use Rattle.message.specs.Messages.{madeOf, kindOf, partsOf, keptOf}
 use Rattle.message.specs.declared.Kind.{Kind}
+use Rattle.message.specs.declared.Kind.the-variants.{Blank}
 use Rattle.message.specs.declared.Message.{Message}
 use Rattle.message.specs.declared.Labelled.{Labelled}
 use Rattle.message.specs.declared.Labelled.the-variants.{Known, Unknown}
@@ -26,6 +27,15 @@ kindFrom (k ∷ ks) n = pick (eqb n (labelOf k)) (Known k) (kindFrom ks n)
 
 abbrev pub labelledOf : ℕ → Labelled
 labelledOf word = kindFrom allKinds (word % 2 ^ 6)
+
+abbrev pub isKnown : Labelled → Bool
+isKnown (Known k) = true
+isKnown Unknown = false
+
+-- a kind in any case, so that the checks after the label's can be said: Blank where the label is unknown
+abbrev pub kindNamed : Labelled → Kind
+kindNamed (Known k) = k
+kindNamed Unknown = Blank
 
 -- ---- content
 

@@ -7,13 +7,10 @@ ghost use Rattle.message.specs.Codec.{labelledOf, contentOf, encodedOf};
 
 mod layouts;
 mod reading;
-mod texts;
 mod writing;
 
 use bits::Packed;
 use refusal::Refusal;
-pub use texts::track_number;
-pub use texts::track_text;
 use units::AltSteps;
 use units::LinkSteps;
 
@@ -105,12 +102,6 @@ pub enum Labelled {
 pub enum Content {
     Good(Message),
     Bad,
-}
-
-// The number that a text names, 0 where it is refused.
-pub struct Tracked {
-    pub refusal: Refusal,
-    pub number: u16,
 }
 
 // A kind's layout above the label: the width and the rule of each field, with zeros behind the last.

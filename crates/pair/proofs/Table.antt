@@ -3,7 +3,7 @@ use mathlib.Core.Path.{_≡_, refl, sym, ap₂, _∙_}
 use mathlib.Core.Bool.{Bool, true, false, not}
 use mathlib.Core.List.{List, [], _∷_}
 use Prim.Native.Nat.{ℕ, _<_}
-use lib.Dec.{eqb}
+use lib.Dec.{eqb, lit<}
 use lib.ListN.{length, getD}
 use Rattle.bits.specs.Tests.{both, every}
 use Rattle.bits.specs.Numbers.{sumOf}
@@ -58,6 +58,17 @@ numbered S6 = refl
 numbered S8 = refl
 numbered S8Plus = refl
 
+numberOf-lt : (k : Kind) → numberOf k < 9
+numberOf-lt Blank = lit< tt
+numberOf-lt S0 = lit< tt
+numberOf-lt S3 = lit< tt
+numberOf-lt S4 = lit< tt
+numberOf-lt S4Plus = lit< tt
+numberOf-lt S5 = lit< tt
+numberOf-lt S6 = lit< tt
+numberOf-lt S8 = lit< tt
+numberOf-lt S8Plus = lit< tt
+
 entryKept : ℕ → ℕ → Bool
 entryKept row column = same (entry row column) (pairOf (kindNumbered row) (kindNumbered column))
 
@@ -66,11 +77,12 @@ table-kept : every (λ row. every (entryKept row) 9) 9 ≡ true
 unfolding pairs entryKept kindNumbered pairOf every
 table-kept = refl
 
-pub pair-at : (a b : Kind) → numberOf a < 9 → numberOf b < 9 → entry (numberOf a) (numberOf b) ≡ pairOf a b
+pub pair-at : (a b : Kind) → entry (numberOf a) (numberOf b) ≡ pairOf a b
 unfolding entryKept
-pair-at a b ha hb =
-    let row = every-at (λ n. every (entryKept n) 9) 9 table-kept (numberOf a) ha in
-    same-eq (entry (numberOf a) (numberOf b)) (pairOf (kindNumbered (numberOf a)) (kindNumbered (numberOf b))) (every-at (entryKept (numberOf a)) 9 row (numberOf b) hb)
+pair-at a b =
+    let row = every-at (λ n. every (entryKept n) 9) 9 table-kept (numberOf a) (numberOf-lt a) in
+    same-eq (entry (numberOf a) (numberOf b)) (pairOf (kindNumbered (numberOf a)) (kindNumbered (numberOf b)))
+    (every-at (entryKept (numberOf a)) 9 row (numberOf b) (numberOf-lt b))
     ∙ ap₂ pairOf (numbered a) (numbered b)
 
 pub nine-by-nine : both (eqb (length pairs) 9) (every (λ row. eqb (length (getD pairs row [])) 9) 9) ≡ true
@@ -81,38 +93,45 @@ pub seventeen : sumOf (λ row. sumOf (λ column. bit (entry row column)) 9) 9 �
 unfolding pairs sumOf
 seventeen = refl
 
--- ---- the four rules in 01's words, each a test of all pairs
+-- ---- 01's four rules, of the table that the code has: one test of all its entries, and the rule at any two kinds
 
-abbrev everyKind : List Kind → (Kind → Bool) → Bool
-everyKind [] f = true
-everyKind (k ∷ ks) f = both (f k) (everyKind ks f)
-
-abbrev everyPair : (Kind → Kind → Bool) → Bool
-everyPair f = everyKind allKinds (λ first. everyKind allKinds (f first))
+abbrev pub tableOf : Kind → Kind → Bool
+tableOf first second = entry (numberOf first) (numberOf second)
 
 abbrev implies : Bool → Bool → Bool
 implies true b = b
 implies false b = true
 
 -- S.0 is followed by S.0 only, and follows nothing else
-abbrev testRule : Kind → Kind → Bool
-testRule first second = implies (pairOf first second) (same (isIn first (S0 ∷ [])) (isIn second (S0 ∷ [])))
+abbrev pub testRule : Kind → Kind → Bool
+testRule first second =
+    both (implies (isIn first (S0 ∷ [])) (same (tableOf first second) (isIn second (S0 ∷ []))))
+    (implies (isIn second (S0 ∷ [])) (same (tableOf first second) (isIn first (S0 ∷ []))))
 
 -- S.4+ and S.8+ are followed by S.3 or S.5, and are never second
-abbrev plusRule : Kind → Kind → Bool
+abbrev pub plusRule : Kind → Kind → Bool
 plusRule first second =
-    both (implies (isIn first (S4Plus ∷ S8Plus ∷ [])) (same (pairOf first second) (isIn second (S3 ∷ S5 ∷ []))))
-    (implies (isIn second (S4Plus ∷ S8Plus ∷ [])) (not (pairOf first second)))
+    both (implies (isIn first (S4Plus ∷ S8Plus ∷ [])) (same (tableOf first second) (isIn second (S3 ∷ S5 ∷ []))))
+    (implies (isIn second (S4Plus ∷ S8Plus ∷ [])) (not (tableOf first second)))
 
 -- S.4, S.6 and S.8 are followed by S.4, S.6, S.8 or Blank
-abbrev trackRule : Kind → Kind → Bool
+abbrev pub trackRule : Kind → Kind → Bool
 trackRule first second =
-    implies (isIn first (S4 ∷ S6 ∷ S8 ∷ [])) (same (pairOf first second) (isIn second (S4 ∷ S6 ∷ S8 ∷ Blank ∷ [])))
+    implies (isIn first (S4 ∷ S6 ∷ S8 ∷ [])) (same (tableOf first second) (isIn second (S4 ∷ S6 ∷ S8 ∷ Blank ∷ [])))
 
 -- Blank, S.3 and S.5 are never first
-abbrev neverFirst : Kind → Kind → Bool
-neverFirst first second = implies (isIn first (Blank ∷ S3 ∷ S5 ∷ [])) (not (pairOf first second))
+abbrev pub neverFirst : Kind → Kind → Bool
+neverFirst first second = implies (isIn first (Blank ∷ S3 ∷ S5 ∷ [])) (not (tableOf first second))
 
-pub four-rules : everyPair (λ first second. both (testRule first second) (both (plusRule first second) (both (trackRule first second) (neverFirst first second)))) ≡ true
-unfolding pairOf
-four-rules = refl
+abbrev pub fourRules : Kind → Kind → Bool
+fourRules first second = both (testRule first second) (both (plusRule first second) (both (trackRule first second) (neverFirst first second)))
+
+rules-kept : every (λ row. every (λ column. fourRules (kindNumbered row) (kindNumbered column)) 9) 9 ≡ true
+unfolding pairs kindNumbered every
+rules-kept = refl
+
+pub four-rules : (first second : Kind) → fourRules first second ≡ true
+four-rules first second =
+    let row = every-at (λ n. every (λ column. fourRules (kindNumbered n) (kindNumbered column)) 9) 9 rules-kept (numberOf first) (numberOf-lt first) in
+    sym (ap₂ fourRules (numbered first) (numbered second))
+    ∙ every-at (λ column. fourRules (kindNumbered (numberOf first)) (kindNumbered column)) 9 row (numberOf second) (numberOf-lt second)

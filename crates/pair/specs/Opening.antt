@@ -1,62 +1,91 @@
--- Opening an image, in 01's order ('Orders of checks'): 2, 3, 4, 5, 6 first message, 6 second, 7, 8 first, 8 second.
-use mathlib.Core.List.{List}
+-- Opening an image (01, 'Orders of checks').
+use mathlib.Core.Bool.{Bool}
+use mathlib.Core.List.{List, [], _∷_}
 use Prim.Native.Nat.{ℕ}
 use lib.Dec.{eqb}
-use Rattle.bits.specs.Tests.{pick}
+use lib.ListN.{length}
 use Rattle.bits.specs.Octets.{bitAt}
-use Rattle.refusal.specs.Refusals.{numbered, numberedAt, success, badLength, badStart, badMark, badCheck, unknownLabel, badPair, badContent}
+use Rattle.refusal.specs.Refusals.{numbered, success, badLength, badStart, badMark, badCheck, unknownLabel, badPair, badContent}
+use Rattle.refusal.specs.Checks.{Check, check, checkAt, firstRefusal, answered}
 use Rattle.refusal.specs.declared.Refusal.{Refusal}
-use Rattle.frame.specs.Frame.{verdictOf}
+use Rattle.frame.specs.Frame.{startGood, marksGood, checksGood}
 use Rattle.frame.specs.Words.{wordOf}
-use Rattle.message.specs.Codec.{labelledOf, contentOf}
+use Rattle.message.specs.Codec.{labelledOf, isKnown, kindNamed, contentKept, messageIn}
 use Rattle.message.specs.declared.Kind.{Kind}
 use Rattle.message.specs.declared.Message.{Message}
-use Rattle.message.specs.declared.Labelled.{Labelled}
-use Rattle.message.specs.declared.Labelled.the-variants.{Known, Unknown}
-use Rattle.message.specs.declared.Content.{Content}
-use Rattle.message.specs.declared.Content.the-variants.{Good, Bad}
 use Rattle.pair.specs.Pairs.{pairOf}
 use Rattle.pair.specs.declared.Opened.{Opened}
-use Rattle.pair.specs.declared.Opened.the-variants.{Pair, BadLength, BadStart, BadMark, BadCheck, FirstUnknown, SecondUnknown, BadPair, FirstBad, SecondBad}
+use Rattle.pair.specs.declared.Opened.the-variants.{Pair, Refused}
 
--- 01's number and place for each answer
+-- ---- what is asked of the two words of a frame
+
+-- the label is that of a kind
+abbrev pub isLabelled : ℕ → Bool
+isLabelled word = isKnown (labelledOf word)
+
+-- the kind that the label names
+abbrev pub wordKind : ℕ → Kind
+wordKind word = kindNamed (labelledOf word)
+
+-- the content is as the kind has it
+abbrev pub isContent : ℕ → Bool
+isContent word = contentKept (wordKind word) word
+
+-- the message
+abbrev pub wordMessage : ℕ → Message
+wordMessage word = messageIn (wordKind word) word
+
+-- ---- an image
+
+-- the words of its two messages
+abbrev pub firstWord : List ℕ → ℕ
+firstWord image = wordOf (bitAt image) 1
+
+abbrev pub secondWord : List ℕ → ℕ
+secondWord image = wordOf (bitAt image) 2
+
+-- 2, 3, 4, 5, 6 first message, 6 second, 7, 8 first, 8 second
+abbrev pub openChecks : List ℕ → List Check
+openChecks image =
+    check (eqb (length image) 16) badLength
+    ∷ check (startGood (bitAt image)) badStart
+    ∷ check (marksGood (bitAt image)) badMark
+    ∷ check (checksGood (bitAt image)) badCheck
+    ∷ checkAt (isLabelled (firstWord image)) unknownLabel 1
+    ∷ checkAt (isLabelled (secondWord image)) unknownLabel 2
+    ∷ check (pairOf (wordKind (firstWord image)) (wordKind (secondWord image))) badPair
+    ∷ checkAt (isContent (firstWord image)) badContent 1
+    ∷ checkAt (isContent (secondWord image)) badContent 2
+    ∷ []
+
+unfoldable pub openRefusal : List ℕ → Refusal
+openRefusal image = firstRefusal (openChecks image)
+
+-- what an image opens as: its two messages, or the refusal
+unfoldable pub openOf : List ℕ → Opened
+openOf image = answered Refused (openRefusal image) (Pair (wordMessage (firstWord image)) (wordMessage (secondWord image)))
+
+-- 01's number and place of each case
 abbrev pub refusalOf : Opened → Refusal
 refusalOf (Pair first second) = numbered success
-refusalOf BadLength = numbered badLength
-refusalOf BadStart = numbered badStart
-refusalOf BadMark = numbered badMark
-refusalOf BadCheck = numbered badCheck
-refusalOf FirstUnknown = numberedAt unknownLabel 1
-refusalOf SecondUnknown = numberedAt unknownLabel 2
-refusalOf BadPair = numbered badPair
-refusalOf FirstBad = numberedAt badContent 1
-refusalOf SecondBad = numberedAt badContent 2
+refusalOf (Refused r) = r
 
--- the contents, once the labels are known and the pair is in the table
-abbrev pub secondContent : Message → Content → Opened
-secondContent first (Good second) = Pair first second
-secondContent first Bad = SecondBad
+-- ---- the steps of the code
 
-abbrev pub contents : Content → Content → Opened
-contents (Good first) second = secondContent first second
-contents Bad second = FirstBad
-
-unfoldable pub openContents : Kind → Kind → ℕ → ℕ → Opened
-openContents k l v w = contents (contentOf k v) (contentOf l w)
-
--- the labels, the pair, the contents of the words v and w
-abbrev pub openLabels : Labelled → Labelled → ℕ → ℕ → Opened
-openLabels Unknown l v w = FirstUnknown
-openLabels (Known k) Unknown v w = SecondUnknown
-openLabels (Known k) (Known l) v w = pick (pairOf k l) (openContents k l v w) BadPair
+-- the words of a good frame, from the labels on
+abbrev pub wordChecks : ℕ → ℕ → List Check
+wordChecks v w =
+    checkAt (isLabelled v) unknownLabel 1
+    ∷ checkAt (isLabelled w) unknownLabel 2
+    ∷ check (pairOf (wordKind v) (wordKind w)) badPair
+    ∷ checkAt (isContent v) badContent 1
+    ∷ checkAt (isContent w) badContent 2
+    ∷ []
 
 unfoldable pub openWords : ℕ → ℕ → Opened
-openWords v w = openLabels (labelledOf v) (labelledOf w) v w
+openWords v w = answered Refused (firstRefusal (wordChecks v w)) (Pair (wordMessage v) (wordMessage w))
 
--- a frame's refusal, by its number
-abbrev pub frameRefused : ℕ → Opened
-frameRefused n = pick (eqb n badLength) BadLength (pick (eqb n badStart) BadStart (pick (eqb n badMark) BadMark BadCheck))
-
-unfoldable pub openOf : List ℕ → Opened
-openOf image =
-    pick (eqb (verdictOf image) success) (openWords (wordOf (bitAt image) 1) (wordOf (bitAt image) 2)) (frameRefused (verdictOf image))
+-- the contents of words of known kinds
+unfoldable pub openContents : Kind → Kind → ℕ → ℕ → Opened
+openContents k l v w =
+    answered Refused (firstRefusal (checkAt (contentKept k v) badContent 1 ∷ checkAt (contentKept l w) badContent 2 ∷ [])) (Pair (messageIn k v) (messageIn l w))

@@ -3,7 +3,7 @@
 ghost use mathlib.Core.Path.{_≡_};
 ghost use Prim.Native.Nat.{_<_};
 ghost use Rattle.pair.specs.Pairs.{numberOf, pairOf};
-ghost use Rattle.pair.specs.Opening.{refusalOf, openContents, openWords, frameRefused, openOf};
+ghost use Rattle.pair.specs.Opening.{refusalOf, openContents, openWords, openOf};
 ghost use Rattle.pair.specs.Closing.{Closed};
 use message::Content;
 use message::Kind;
@@ -52,18 +52,10 @@ fn is_pair(first: Kind, second: Kind) -> bool
     PAIRS[number(first)][number(second)]
 }
 
-// What an image opens as.
+// What an image opens as: two messages, or the refusal.
 pub enum Opened {
     Pair(Message, Message),
-    BadLength,
-    BadStart,
-    BadMark,
-    BadCheck,
-    FirstUnknown,
-    SecondUnknown,
-    BadPair,
-    FirstBad,
-    SecondBad,
+    Refused(Refusal),
 }
 
 impl Opened {
@@ -73,15 +65,7 @@ impl Opened {
     {
         match self {
             Opened::Pair(_, _) => Refusal::of(refusal::SUCCESS),
-            Opened::BadLength => Refusal::of(refusal::BAD_LENGTH),
-            Opened::BadStart => Refusal::of(refusal::BAD_START),
-            Opened::BadMark => Refusal::of(refusal::BAD_MARK),
-            Opened::BadCheck => Refusal::of(refusal::BAD_CHECK),
-            Opened::FirstUnknown => Refusal::at(refusal::UNKNOWN_LABEL, 1),
-            Opened::SecondUnknown => Refusal::at(refusal::UNKNOWN_LABEL, 2),
-            Opened::BadPair => Refusal::of(refusal::BAD_PAIR),
-            Opened::FirstBad => Refusal::at(refusal::BAD_CONTENT, 1),
-            Opened::SecondBad => Refusal::at(refusal::BAD_CONTENT, 2),
+            Opened::Refused(r) => r,
         }
     }
 }
@@ -91,10 +75,10 @@ fn open_contents(k: Kind, l: Kind, v: u64, w: u64) -> Opened
     ensures { λ r. ⌜ r ≡ openContents k l v w ⌝ }
 {
     let Content::Good(first) = message::read_content(k, v) else {
-        return Opened::FirstBad;
+        return Opened::Refused(Refusal::at(refusal::BAD_CONTENT, 1));
     };
     let Content::Good(second) = message::read_content(l, w) else {
-        return Opened::SecondBad;
+        return Opened::Refused(Refusal::at(refusal::BAD_CONTENT, 2));
     };
     Opened::Pair(first, second)
 }
@@ -104,32 +88,15 @@ fn open_words(v: u64, w: u64) -> Opened
     ensures { λ r. ⌜ r ≡ openWords v w ⌝ }
 {
     let Labelled::Known(k) = message::find_kind(v) else {
-        return Opened::FirstUnknown;
+        return Opened::Refused(Refusal::at(refusal::UNKNOWN_LABEL, 1));
     };
     let Labelled::Known(l) = message::find_kind(w) else {
-        return Opened::SecondUnknown;
+        return Opened::Refused(Refusal::at(refusal::UNKNOWN_LABEL, 2));
     };
-    if is_pair(k, l) {
-        open_contents(k, l, v, w)
-    } else {
-        Opened::BadPair
+    if !is_pair(k, l) {
+        return Opened::Refused(Refusal::of(refusal::BAD_PAIR));
     }
-}
-
-// A frame that is not good, by the number of its verdict.
-fn refuse_frame(number: u8) -> Opened
-    ensures { λ r. ⌜ r ≡ frameRefused number ⌝ }
-{
-    if number == refusal::BAD_LENGTH {
-        return Opened::BadLength;
-    }
-    if number == refusal::BAD_START {
-        return Opened::BadStart;
-    }
-    if number == refusal::BAD_MARK {
-        return Opened::BadMark;
-    }
-    Opened::BadCheck
+    open_contents(k, l, v, w)
 }
 
 // Opens an image: 2, 3, 4, 5, 6 first message, 6 second, 7, 8 first, 8 second.
@@ -138,7 +105,7 @@ pub fn open(image: &[u8]) -> Opened
 {
     let verdict = frame::verdict(image);
     if verdict.number != refusal::SUCCESS {
-        return refuse_frame(verdict.number);
+        return Opened::Refused(verdict);
     }
     open_words(frame::word(image, 1), frame::word(image, 2))
 }

@@ -1,91 +1,94 @@
--- What an answer of the shift's steps says of the input. Assumes nothing.
-use mathlib.Core.Path.{_≡_, refl, ap, _∙_}
+-- What the shift's steps answer. Assumes nothing.
+use mathlib.Core.Path.{_≡_, refl, sym, ap, ap₂, _∙_}
 use mathlib.Core.Bool.{Bool, true, false}
-use mathlib.Core.List.{List}
-use Prim.Native.Nat.{_^_, _≤_, _<_}
-use native.Mathlib.Omega.{arith}
-use borrow.Author.Tests.{leb-true}
-use lib.Dec.{leb}
+use mathlib.Core.List.{List, [], _∷_, _++_}
+use borrow.Author.Tests.{eqb-true, eq-eqb}
+use lib.Dec.{eqb}
 use lib.IntN.{ℤ}
-use lib.ListN.{length}
-use lib.Signed.{mag}
 use Rattle.bits.specs.Tests.{pick}
-use Rattle.refusal.specs.Refusals.{numbered, numberedAt, badLength, badContent, outOfRange, noPosition}
-use Rattle.units.specs.Offsets.{areOffsets, sumZ}
-use Rattle.units.specs.Steps.{isStep, movedTo}
+use Rattle.refusal.specs.Refusals.{success, noPosition, badContent, numbered, numberedAt}
+use Rattle.refusal.specs.Checks.{Check, check, checkAt, firstRefusal, onSuccess, answered}
+use Rattle.refusal.specs.declared.Refusal.{Refusal}
+use Rattle.units.specs.Offsets.{sumZ}
+use Rattle.units.specs.Steps.{nearestTo, movedTo}
 use Rattle.units.specs.declared.Feet.{Feet}
+use Rattle.units.specs.declared.LinkSteps.{LinkSteps}
 use Rattle.message.specs.Codec.{encodedOf}
-use Rattle.message.specs.declared.Track.{Track}
 use Rattle.message.specs.declared.Message.{Message}
-use Rattle.shift.specs.Positions.{carriedOf}
-use Rattle.shift.specs.Shift.{sumsOf, stepsOf, afterSums, movedOf, finishedOf, shiftedTrack, shiftedOf}
-use Rattle.shift.specs.declared.Carried.{Carried}
-use Rattle.shift.specs.declared.Carried.the-variants as C
-use Rattle.shift.specs.declared.Sums.{Sums}
+use Rattle.shift.specs.Positions.{positionOf, isSomewhere, xOf, yOf, placedAt}
+use Rattle.shift.specs.Shift.{shiftRefusal, shiftedOf, listChecks, sumsOf, stepChecks, movesTo, movesOf, leftAs, finishedOf}
+use Rattle.shift.specs.declared.Position.{Position}
+use Rattle.shift.specs.declared.Position.the-variants.{At, Nowhere}
+use Rattle.shift.specs.declared.Shifted.{Shifted}
 use Rattle.shift.specs.declared.Sums.the-variants as U
-use Rattle.shift.specs.declared.Steps.{Steps}
-use Rattle.shift.specs.declared.Steps.the-variants as P
-use Rattle.units.proofs.Sums.{sum-small}
+use Rattle.shift.specs.declared.Moves.the-variants as M
+use Rattle.bits.proofs.TestLaws.{zero-one, clash}
+use Rattle.refusal.proofs.CheckLaws.{first-more, given, left, answer-refused, answer-is, success-whole, Refuses}
 
--- ---- sums, and a position, that are answered; a refusal's number, which is not that of success
+-- ---- the lists, and then the steps
 
--- at most eight offsets, all in range, that come to so many feet
-pub record Added (xs : List ℤ) (a : Feet) : Type 0 where
-  pub few : length xs ≤ 8
-  pub good : areOffsets xs ≡ true
-  pub sum : sumZ xs ≡ a .0
+module _ (x y : ℤ) (xs ys : List ℤ) where
+  moves-by : firstRefusal (listChecks xs ys ++ stepChecks (movedTo x xs) (movedTo y ys))
+      ≡ onSuccess (firstRefusal (listChecks xs ys)) (firstRefusal (stepChecks (movedTo x xs) (movedTo y ys))) (firstRefusal (listChecks xs ys))
+  moves-by = first-more (listChecks xs ys) (stepChecks (movedTo x xs) (movedTo y ys)) refl
 
-abbrev pub Summing : List ℤ → List ℤ → Sums → Type 0
-Summing xs ys (U.Of a b) = Added xs a × Added ys b
-Summing xs ys (U.Refused n axis) = 1 ≤ n
+  -- lists that are refused
+  pub lists-refused : (r : Refusal) → sumsOf xs ys ≡ U.Refused r → M.Refused r ≡ movesOf x y xs ys
+  unfolding sumsOf movesOf
+  lists-refused r e = go (eqb (firstRefusal (listChecks xs ys) .number) success) refl e
+    where
+      go : (t : Bool) → eqb (firstRefusal (listChecks xs ys) .number) success ≡ t
+          → pick t (U.Of (record { 0 = sumZ xs }) (record { 0 = sumZ ys })) (U.Refused (firstRefusal (listChecks xs ys))) ≡ U.Refused r → M.Refused r ≡ movesOf x y xs ys
+      go true f q = zero-one (cc)
+      go false f q =
+          let is : firstRefusal (listChecks xs ys) ≡ r = cc in
+          let wrong : Refuses (firstRefusal (listChecks xs ys)) = λ z. clash (eq-eqb _ _ z) f in
+          sym (answer-refused M.Refused _ (moves-by ∙ left (firstRefusal (listChecks xs ys)) _ _ wrong ∙ is) (λ z. wrong (ap (λ (s : Refusal). s .number) is ∙ z)))
 
-pub summing : (xs ys : List ℤ) → Summing xs ys (sumsOf xs ys)
-unfolding sumsOf
-summing xs ys = go (leb (length xs) 8) (leb (length ys) 8) (areOffsets xs) (areOffsets ys) refl refl refl refl
-  where
-    go : (p q r s : Bool) → leb (length xs) 8 ≡ p → leb (length ys) 8 ≡ q → areOffsets xs ≡ r → areOffsets ys ≡ s
-        → Summing xs ys (pick p (pick q (pick r (pick s (U.Of (record { 0 = sumZ xs }) (record { 0 = sumZ ys })) (U.Refused outOfRange 2)) (U.Refused outOfRange 1)) (U.Refused badLength 2)) (U.Refused badLength 1))
-    go true true true true hp hq hr hs =
-        (record { few = leb-true (length xs) 8 hp; good = hr; sum = refl }, record { few = leb-true (length ys) 8 hq; good = hs; sum = refl })
-    go true true true false hp hq hr hs = omega arith
-    go true true false s hp hq hr hs = omega arith
-    go true false r s hp hq hr hs = omega arith
-    go false q r s hp hq hr hs = omega arith
+  -- and lists that are added up
+  pub lists-added : (dx dy : Feet) → sumsOf xs ys ≡ U.Of dx dy → movesTo (nearestTo x (dx .0)) (nearestTo y (dy .0)) ≡ movesOf x y xs ys
+  unfolding sumsOf movesOf movesTo
+  lists-added dx dy e =
+      let q = answer-is U.Refused (U.Of (record { 0 = sumZ xs }) (record { 0 = sumZ ys })) (firstRefusal (listChecks xs ys)) (U.Of dx dy) (λ r z. zero-one (cc)) e in
+      let v = q .1 in
+      let a : sumZ xs ≡ dx .0 = cc in
+      let b : sumZ ys ≡ dy .0 = cc in
+      let to : ℤ → ℤ → Refusal → _ = λ u v r. answered M.Refused r (M.To (record { 0 = u }) (record { 0 = v })) in
+      rw (← a, ← b) (sym (ap (to (movedTo x xs) (movedTo y ys)) (moves-by ∙ given (firstRefusal (listChecks xs ys)) _ _ (q .0))))
 
-pub added-small : {xs : List ℤ} {a : Feet} → Added xs a → mag (a .0) < 2 ^ 30
-added-small {xs} h = rw (← h .sum) (sum-small xs (h .few) (h .good))
+-- ---- a message by its position and the test of its content
 
-abbrev pub Stepping : ℤ → ℤ → Steps → Type 0
-Stepping x y (P.At a b) = (x ≡ a .0) × (y ≡ b .0)
-Stepping x y (P.Refused n axis) = 1 ≤ n
+abbrev byPosition : Position → Bool → List ℤ → List ℤ → Refusal
+byPosition p fits xs ys =
+    firstRefusal (check (isSomewhere p) noPosition ∷ checkAt fits badContent 1 ∷ (listChecks xs ys ++ stepChecks (movedTo (xOf p) xs) (movedTo (yOf p) ys)))
 
-stepping : (x y : ℤ) → Stepping x y (stepsOf x y)
-unfolding stepsOf
-stepping x y = go (isStep x) (isStep y)
-  where
-    go : (u v : Bool) → Stepping x y (pick u (pick v (P.At (record { 0 = x }) (record { 0 = y })) (P.Refused outOfRange 2)) (P.Refused outOfRange 1))
-    go true true = (refl, refl)
-    go true false = omega arith
-    go false v = omega arith
+abbrev shiftedBy : Position → Bool → Message → List ℤ → List ℤ → Shifted
+shiftedBy p fits m xs ys =
+    record { refusal = byPosition p fits xs ys; message = onSuccess (byPosition p fits xs ys) (placedAt m (movedTo (xOf p) xs) (movedTo (yOf p) ys)) m }
 
--- on each axis the step nearest to the exact sum
-pub moving : (x y : ℤ) (xs ys : List ℤ) → Stepping (movedTo x xs) (movedTo y ys) (movedOf x y xs ys)
-unfolding movedOf
-moving x y xs ys = go (sumsOf xs ys) (summing xs ys)
-  where
-    go : (s : Sums) → Summing xs ys s → Stepping (movedTo x xs) (movedTo y ys) (afterSums x y s)
-    go (U.Refused n axis) h = h
-    go (U.Of dx dy) h = rw (h .0 .sum, h .1 .sum) (stepping _ _)
+module _ (m : Message) (xs ys : List ℤ) where
+  by : {p : Position} {b : Bool} → positionOf m ≡ p → encodedOf m .fits ≡ b → shiftedOf m xs ys ≡ shiftedBy p b m xs ys
+  unfolding shiftedOf shiftRefusal
+  by e f = ap₂ (λ (p : Position) (b : Bool). shiftedBy p b m xs ys) e f
 
--- ---- a message without a position, and one with a position by the test of its content
+  pub shifted-nowhere : positionOf m ≡ Nowhere → shiftedOf m xs ys ≡ leftAs m (numbered noPosition)
+  shifted-nowhere e = by e refl
 
-pub shifted-none : (m : Message) (xs ys : List ℤ) → carriedOf m ≡ C.None → shiftedOf m xs ys ≡ record { refusal = numbered noPosition; message = m }
-unfolding shiftedOf
-shifted-none m xs ys e = ap (λ (k : Carried). shiftedTrack m k xs ys) e
+  module _ (x y : LinkSteps) (e : positionOf m ≡ At x y) where
+    pub shifted-bad : encodedOf m .fits ≡ false → shiftedOf m xs ys ≡ leftAs m (numberedAt badContent 1)
+    shifted-bad f = by e f
 
-pub shifted-one : (m : Message) (xs ys : List ℤ) (t : Track) → carriedOf m ≡ C.One t → (b : Bool) → encodedOf m .fits ≡ b
-    → shiftedOf m xs ys ≡ pick b (finishedOf m t (movedOf (t .x .0) (t .y .0) xs ys)) (record { refusal = numberedAt badContent 1; message = m })
-unfolding shiftedOf
-shifted-one m xs ys t e b f =
-    ap (λ (k : Carried). shiftedTrack m k xs ys) e
-    ∙ ap (λ (c : Bool). pick c (finishedOf m t (movedOf (t .x .0) (t .y .0) xs ys)) (record { refusal = numberedAt badContent 1; message = m })) f
+    abbrev steps : Refusal
+    steps = firstRefusal (listChecks xs ys ++ stepChecks (movedTo (x .0) xs) (movedTo (y .0) ys))
+
+    pub shifted-moved : encodedOf m .fits ≡ true → shiftedOf m xs ys ≡ finishedOf m (movesOf (x .0) (y .0) xs ys)
+    unfolding movesOf
+    shifted-moved f = by e f ∙ go (eqb (steps .number) success) refl
+      where
+        go : (t : Bool) → eqb (steps .number) success ≡ t
+            → _≡_ {A = Shifted} (record { refusal = steps; message = pick t (placedAt m (movedTo (x .0) xs) (movedTo (y .0) ys)) m })
+            (finishedOf m (pick t (M.To (record { 0 = movedTo (x .0) xs }) (record { 0 = movedTo (y .0) ys })) (M.Refused steps)))
+        go false q = refl
+        go true q =
+            ap (λ (r : Refusal). leftAs (placedAt m (movedTo (x .0) xs) (movedTo (y .0) ys)) r)
+            (success-whole (listChecks xs ys ++ stepChecks (movedTo (x .0) xs) (movedTo (y .0) ys)) refl (eqb-true _ _ q))

@@ -1,148 +1,185 @@
--- Laws of the shift: the steps are the nearest, the order of offsets does not matter, empty lists change nothing, and a shift can be
--- taken back. Assumes nothing.
-use mathlib.Core.Path.{_≡_, refl, sym, ap, ap₂, subst, _∙_}
+-- Laws of the shift, of what the public call answers: the steps are the nearest, the order of offsets does not matter, empty lists change
+-- nothing, and a shift can be taken back. Assumes nothing.
+use mathlib.Core.Path.{_≡_, refl, sym, ap, ap₂, _∙_}
 use mathlib.Core.Bool.{Bool, true, false}
-use mathlib.Core.List.{List, [], _∷_, _++_}
-use native.Mathlib.Omega.{arith}
+use mathlib.Core.List.{List, [], _∷_, List·Permᴰ}
+use Prim.Native.Nat.{ℕ, _^_}
 use lib.IntN.{ℤ, pos, negℤ, _+ℤ_, _*ℤ_}
-use Rattle.bits.specs.Tests.{pick}
-use Rattle.refusal.specs.Refusals.{numbered, numberedAt, success, badContent, outOfRange}
+use lib.Dec.{ltb}
+use lib.Signed.{mag}
+use native.Mathlib.Omega.{arith}
+use borrow.Author.Tests.{ltb-true}
+use Rattle.bits.specs.Tests.{pick, both}
+use Rattle.bits.specs.Twos.{unsignedOf}
+use Rattle.bits.specs.Layout.{Field, fixed, number, signed, widthOf, Values, allows, fits, join, writeAs}
+use Rattle.refusal.specs.Refusals.{numbered, success}
+use Rattle.refusal.specs.Checks.{onSuccess}
 use Rattle.refusal.specs.declared.Refusal.{Refusal}
 use Rattle.units.specs.Offsets.{areOffsets, sumZ}
 use Rattle.units.specs.Steps.{isStep, movedTo}
 use Rattle.units.specs.Nearest.{Nearest, OddMultiple}
-use Rattle.units.specs.declared.LinkSteps.{LinkSteps}
 use Rattle.message.specs.Codec.{encodedOf}
+use Rattle.message.specs.Layouts.{labelOf, trackLayout, wholeOf}
+use Rattle.message.specs.Messages.{trackParts, kindOf, partsOf}
+use Rattle.message.specs.declared.Kind.the-variants as k
 use Rattle.message.specs.declared.Track.{Track}
 use Rattle.message.specs.declared.Message.{Message}
 use Rattle.message.specs.declared.Message.the-variants as m
-use Rattle.shift.specs.Positions.{carriedOf, withTrack, placedAt}
-use Rattle.shift.specs.Shift.{sumsOf, stepsOf, movedOf, finishedOf, shiftedTrack, shiftedOf}
-use Rattle.shift.specs.declared.Carried.{Carried}
-use Rattle.shift.specs.declared.Carried.the-variants as C
-use Rattle.shift.specs.declared.Steps.{Steps}
-use Rattle.shift.specs.declared.Steps.the-variants as P
+use Rattle.shift.specs.Positions.{positionOf, isSomewhere, xOf, yOf, placedAt}
+use Rattle.shift.specs.Shift.{newX, newY, shiftChecks, shiftRefusal, shiftedOf}
 use Rattle.shift.specs.declared.Shifted.{Shifted}
-use Rattle.bits.proofs.TestLaws.{zero-one}
+use Rattle.bits.proofs.TestLaws.{clash, both-true}
+use Rattle.refusal.proofs.CheckLaws.{Passed, success-passed, passed-success, given}
+use Rattle.message.proofs.RoundTrip.{packed}
+use Rattle.units.proofs.Ranges.{mag-step}
 use Rattle.units.proofs.Nearest.{near-nearest}
-use Rattle.units.proofs.Order.{Alike, alike-self, exchanged}
+use Rattle.units.proofs.Order.{alike}
 use Rattle.units.proofs.Undo.{not-moved, moved-back}
-use Rattle.shift.proofs.ShiftLaws.{Stepping, moving, shifted-none, shifted-one}
 
--- ---- the order of offsets
+-- ---- what a shift that is not refused gives
 
-sums-alike : (xs us ys vs : List ℤ) → Alike xs us → Alike ys vs → sumsOf xs ys ≡ sumsOf us vs
-unfolding sumsOf
-sums-alike xs us ys vs a b = rw (a .long, a .good, a .sum, b .long, b .good, b .sum)
+module _ (m : Message) (xs ys : List ℤ) (e : shiftedOf m xs ys .refusal ≡ numbered success) where
+  none-refused : shiftRefusal m xs ys .number ≡ success
+  unfolding shiftedOf
+  none-refused = ap (λ (r : Refusal). r .number) e
 
-alike : (m : Message) (xs us ys vs : List ℤ) → Alike xs us → Alike ys vs → shiftedOf m xs ys ≡ shiftedOf m us vs
-unfolding shiftedOf movedOf
-alike m xs us ys vs a b = go (carriedOf m)
+  pub passed : Passed (shiftChecks m xs ys)
+  unfolding shiftRefusal
+  passed = success-passed (shiftChecks m xs ys) refl none-refused
+
+  pub placed : shiftedOf m xs ys .message ≡ placedAt m (newX m xs) (newY m ys)
+  unfolding shiftedOf
+  placed = given (shiftRefusal m xs ys) _ m none-refused
+
+-- a message that is placed has that position, and can be placed again
+placed-x : (m : Message) (x y : ℤ) → isSomewhere (positionOf m) ≡ true → xOf (positionOf (placedAt m x y)) ≡ x
+placed-x m.Blank x y h = absurd (clash h refl)
+placed-x m.S0 x y h = absurd (clash h refl)
+placed-x (m.S3 i) x y h = absurd (clash h refl)
+placed-x (m.S4 t) x y h = refl
+placed-x (m.S4Plus t) x y h = refl
+placed-x (m.S5 a) x y h = absurd (clash h refl)
+placed-x (m.S6 s) x y h = absurd (clash h refl)
+placed-x (m.S8 t) x y h = refl
+placed-x (m.S8Plus t) x y h = refl
+
+placed-y : (m : Message) (x y : ℤ) → isSomewhere (positionOf m) ≡ true → yOf (positionOf (placedAt m x y)) ≡ y
+placed-y m.Blank x y h = absurd (clash h refl)
+placed-y m.S0 x y h = absurd (clash h refl)
+placed-y (m.S3 i) x y h = absurd (clash h refl)
+placed-y (m.S4 t) x y h = refl
+placed-y (m.S4Plus t) x y h = refl
+placed-y (m.S5 a) x y h = absurd (clash h refl)
+placed-y (m.S6 s) x y h = absurd (clash h refl)
+placed-y (m.S8 t) x y h = refl
+placed-y (m.S8Plus t) x y h = refl
+
+placed-again : (m : Message) (x y u v : ℤ) → placedAt (placedAt m x y) u v ≡ placedAt m u v
+placed-again m.Blank x y u v = refl
+placed-again m.S0 x y u v = refl
+placed-again (m.S3 i) x y u v = refl
+placed-again (m.S4 t) x y u v = refl
+placed-again (m.S4Plus t) x y u v = refl
+placed-again (m.S5 a) x y u v = refl
+placed-again (m.S6 s) x y u v = refl
+placed-again (m.S8 t) x y u v = refl
+placed-again (m.S8Plus t) x y u v = refl
+
+placed-own : (m : Message) → placedAt m (xOf (positionOf m)) (yOf (positionOf m)) ≡ m
+placed-own m.Blank = refl
+placed-own m.S0 = refl
+placed-own (m.S3 i) = refl
+placed-own (m.S4 t) = refl
+placed-own (m.S4Plus t) = refl
+placed-own (m.S5 a) = refl
+placed-own (m.S6 s) = refl
+placed-own (m.S8 t) = refl
+placed-own (m.S8Plus t) = refl
+
+-- ---- the nearest steps: a shift that is not refused gives the message at a position of which each axis is nearest to the exact sum in
+-- feet, and with all else as it was
+
+pub record Nearby (m : Message) (xs ys : List ℤ) (n : Message) : Type 0 where
+  pub else : n ≡ placedAt m (xOf (positionOf n)) (yOf (positionOf n))
+  pub x : Nearest 750 (pos 750 *ℤ xOf (positionOf m) +ℤ sumZ xs) (xOf (positionOf n))
+  pub y : Nearest 750 (pos 750 *ℤ yOf (positionOf m) +ℤ sumZ ys) (yOf (positionOf n))
+
+pub shift-nearest : (m : Message) (xs ys : List ℤ) → shiftedOf m xs ys .refusal ≡ numbered success → Nearby m xs ys (shiftedOf m xs ys .message)
+shift-nearest m xs ys e =
+    let there = passed m xs ys e .0 in
+    let p = placed m xs ys e in
+    let a = placed-x m (newX m xs) (newY m ys) there in
+    let b = placed-y m (newX m xs) (newY m ys) there in
+    rw p (record {
+      else = ap₂ (placedAt m) (sym a) (sym b);
+      x = rw a (near-nearest (pos 750 *ℤ xOf (positionOf m) +ℤ sumZ xs));
+      y = rw b (near-nearest (pos 750 *ℤ yOf (positionOf m) +ℤ sumZ ys));
+    })
+
+-- ---- the order of offsets: lists in any other order
+
+pub any-order : (m : Message) {xs us ys vs : List ℤ} → List·Permᴰ xs us → List·Permᴰ ys vs → shiftedOf m xs ys ≡ shiftedOf m us vs
+unfolding shiftedOf shiftRefusal
+any-order m p q = let a = alike p in let b = alike q in rw (a .long, a .good, a .sum, b .long, b .good, b .sum)
+
+-- ---- empty lists: a message with a position and legal content is shifted to itself, and the shift succeeds
+
+-- the values of a message that can be written fit its layout
+fits-whole : (m : Message) → encodedOf m .fits ≡ true → fits (wholeOf (kindOf m)) (tt, partsOf m) ≡ true
+unfolding encodedOf
+fits-whole m = go (fits (wholeOf (kindOf m)) (tt, partsOf m))
   where
-    go : (k : Carried) → shiftedTrack m k xs ys ≡ shiftedTrack m k us vs
-    go C.None = refl
-    go (C.One t) = rw (sums-alike xs us ys vs a b)
+    go : (t : Bool) → pick t (packed (join 0 (wholeOf (kindOf m)) (tt, partsOf m))) (record { fits = false; word = 0 }) .fits ≡ true → t ≡ true
+    go true e = refl
+    go false e = e
 
-pub x-order : (m : Message) (us : List ℤ) (a b : ℤ) (vs ys : List ℤ) → shiftedOf m (us ++ a ∷ b ∷ vs) ys ≡ shiftedOf m (us ++ b ∷ a ∷ vs) ys
-x-order m us a b vs ys = alike m _ _ ys ys (exchanged us a b vs) (alike-self ys)
+fits-parts : (f : Field) (fs : List Field) (vs : Values (f ∷ fs)) → fits (f ∷ fs) vs ≡ true
+    → (ltb (writeAs f (vs .0)) (2 ^ widthOf f) ≡ true) × (fits fs (vs .1) ≡ true)
+fits-parts f fs vs e =
+    let p = both-true {a = both (ltb (writeAs f (vs .0)) (2 ^ widthOf f)) (allows f (writeAs f (vs .0)))} {b = fits fs (vs .1)} e in
+    (both-true {a = ltb (writeAs f (vs .0)) (2 ^ widthOf f)} {b = allows f (writeAs f (vs .0))} (p .0) .0, p .1)
 
-pub y-order : (m : Message) (xs us : List ℤ) (a b : ℤ) (vs : List ℤ) → shiftedOf m xs (us ++ a ∷ b ∷ vs) ≡ shiftedOf m xs (us ++ b ∷ a ∷ vs)
-y-order m xs us a b vs = alike m xs xs _ _ (alike-self xs) (exchanged us a b vs)
-
--- ---- empty lists
-
-not-moved-both : (x y : ℤ) → movedOf x y [] [] ≡ stepsOf x y
-unfolding movedOf sumsOf areOffsets sumZ
-not-moved-both x y = ap₂ stepsOf (not-moved x) (not-moved y)
-
--- the message that comes back is the message, where its track data stand for themselves
-kept : (m : Message) (t : Track) → withTrack m t ≡ m → finishedOf m t (stepsOf (t .x .0) (t .y .0)) .message ≡ m
-unfolding stepsOf
-kept m t e = go (isStep (t .x .0)) (isStep (t .y .0))
+-- a position that fits its fields is in range
+in-range : (z : ℤ) → ltb (writeAs (signed 12) z) 8192 ≡ true → isStep z ≡ true
+in-range z e = go (ltb (mag z) 4096) refl e
   where
-    go : (a b : Bool) → finishedOf m t (pick a (pick b (P.At (t .x) (t .y)) (P.Refused outOfRange 2)) (P.Refused outOfRange 1)) .message ≡ m
-    go true true = e
-    go true false = refl
-    go false b = refl
+    go : (t : Bool) → ltb (mag z) 4096 ≡ t → ltb (pick t (unsignedOf 4096 z) 8192) 8192 ≡ true → isStep z ≡ true
+    go true h q = mag-step z (ltb-true _ _ h)
+    go false h q = absurd (omega (arith, ltb-true 8192 8192 q))
 
-kept-content : (m : Message) (t : Track) (b : Bool) → withTrack m t ≡ m
-    → pick b (finishedOf m t (movedOf (t .x .0) (t .y .0) [] [])) (record { refusal = numberedAt badContent 1; message = m }) .message ≡ m
-kept-content m t true e = ap (λ (s : Steps). finishedOf m t s .message) (not-moved-both (t .x .0) (t .y .0)) ∙ kept m t e
-kept-content m t false e = refl
+track-range : (label : ℕ) (t : Track) → fits (fixed 6 label ∷ trackLayout) (tt, trackParts t) ≡ true → (isStep (t .x .0) ≡ true) × (isStep (t .y .0) ≡ true)
+track-range label t e =
+    let after-label = fits-parts (fixed 6 label) trackLayout (tt, trackParts t) e .1 in
+    let after-number = fits-parts (number 15) (number 2 ∷ signed 12 ∷ signed 12 ∷ []) (trackParts t) after-label .1 in
+    let after-quality = fits-parts (number 2) (signed 12 ∷ signed 12 ∷ []) (t .quality, (t .x .0, (t .y .0, tt))) after-number .1 in
+    let x = fits-parts (signed 12) (signed 12 ∷ []) (t .x .0, (t .y .0, tt)) after-quality in
+    (in-range (t .x .0) (x .0), in-range (t .y .0) (fits-parts (signed 12) [] (t .y .0, tt) (x .1) .0))
 
-pub nothing-moves : (m : Message) → shiftedOf m [] [] .message ≡ m
-unfolding shiftedOf
-nothing-moves m.Blank = refl
-nothing-moves m.S0 = refl
-nothing-moves (m.S3 x) = refl
-nothing-moves (m.S4 t) = kept-content (m.S4 t) t (encodedOf (m.S4 t) .fits) refl
-nothing-moves (m.S4Plus t) = kept-content (m.S4Plus t) t (encodedOf (m.S4Plus t) .fits) refl
-nothing-moves (m.S5 x) = refl
-nothing-moves (m.S6 x) = refl
-nothing-moves (m.S8 t) = kept-content (m.S8 t) t (encodedOf (m.S8 t) .fits) refl
-nothing-moves (m.S8Plus t) = kept-content (m.S8Plus t) t (encodedOf (m.S8Plus t) .fits) refl
+range : (m : Message) → isSomewhere (positionOf m) ≡ true → encodedOf m .fits ≡ true
+    → (isStep (xOf (positionOf m)) ≡ true) × (isStep (yOf (positionOf m)) ≡ true)
+range m.Blank h f = absurd (clash h refl)
+range m.S0 h f = absurd (clash h refl)
+range (m.S3 i) h f = absurd (clash h refl)
+range (m.S4 t) h f = track-range (labelOf k.S4) t (fits-whole (m.S4 t) f)
+range (m.S4Plus t) h f = track-range (labelOf k.S4Plus) t (fits-whole (m.S4Plus t) f)
+range (m.S5 a) h f = absurd (clash h refl)
+range (m.S6 s) h f = absurd (clash h refl)
+range (m.S8 t) h f = track-range (labelOf k.S8) t (fits-whole (m.S8 t) f)
+range (m.S8Plus t) h f = track-range (labelOf k.S8Plus) t (fits-whole (m.S8Plus t) f)
 
--- ---- the nearest steps
-
-moving-as : (x y : ℤ) (xs ys : List ℤ) (s : Steps) → movedOf x y xs ys ≡ s → Stepping (movedTo x xs) (movedTo y ys) s
-moving-as x y xs ys s e = subst (Stepping (movedTo x xs) (movedTo y ys)) e (moving x y xs ys)
-
-pub nearest-steps : (x y : ℤ) (xs ys : List ℤ) (a b : LinkSteps) → movedOf x y xs ys ≡ P.At a b
-    → Nearest 750 (pos 750 *ℤ x +ℤ sumZ xs) (a .0) × Nearest 750 (pos 750 *ℤ y +ℤ sumZ ys) (b .0)
-nearest-steps x y xs ys a b e =
-    let p = moving-as x y xs ys (P.At a b) e in
-    (rw (← p .0) (near-nearest (pos 750 *ℤ x +ℤ sumZ xs)), rw (← p .1) (near-nearest (pos 750 *ℤ y +ℤ sumZ ys)))
+pub nothing-moves : (m : Message) → isSomewhere (positionOf m) ≡ true → encodedOf m .fits ≡ true
+    → shiftedOf m [] [] ≡ record { refusal = numbered success; message = m }
+unfolding shiftedOf shiftRefusal areOffsets
+nothing-moves m h f =
+    let r = range m h f in
+    let x = not-moved (xOf (positionOf m)) in
+    let y = not-moved (yOf (positionOf m)) in
+    let e : shiftRefusal m [] [] ≡ numbered success =
+    passed-success (shiftChecks m [] []) (h, (f, (refl, (refl, (refl, (refl, (ap isStep x ∙ r .0, (ap isStep y ∙ r .1, tt)))))))) in
+    let n : shiftedOf m [] [] .message ≡ m = placed m [] [] e ∙ ap₂ (placedAt m) x y ∙ placed-own m in
+    λ i. record { refusal = e i; message = n i }
 
 -- ---- there and back: by offsets with the sums dx and dy, and then by one offset of -dx and one of -dy
-
--- the position, where neither shift is refused and neither sum is an odd multiple of 375
-position-back : (x y : ℤ) (xs ys : List ℤ) (a b c d : LinkSteps) → (OddMultiple (sumZ xs) → ⊥) → (OddMultiple (sumZ ys) → ⊥)
-    → movedOf x y xs ys ≡ P.At a b → movedOf (a .0) (b .0) (negℤ (sumZ xs) ∷ []) (negℤ (sumZ ys) ∷ []) ≡ P.At c d
-    → (c .0 ≡ x) × (d .0 ≡ y)
-position-back x y xs ys a b c d ox oy there back =
-    let p = moving-as x y xs ys (P.At a b) there in
-    let q = moving-as (a .0) (b .0) (negℤ (sumZ xs) ∷ []) (negℤ (sumZ ys) ∷ []) (P.At c d) back in (
-      sym (q .0) ∙ ap (λ (z : ℤ). movedTo z (negℤ (sumZ xs) ∷ [])) (sym (p .0)) ∙ moved-back x xs ox,
-      sym (q .1) ∙ ap (λ (z : ℤ). movedTo z (negℤ (sumZ ys) ∷ [])) (sym (p .1)) ∙ moved-back y ys oy,
-    )
-
--- what a shift that is not refused gives
-record Given (m : Message) (t : Track) (xs ys : List ℤ) : Type 0 where
-  x : LinkSteps
-  y : LinkSteps
-  steps : movedOf (t .x .0) (t .y .0) xs ys ≡ P.At x y
-  whole : shiftedOf m xs ys .message ≡ withTrack m (placedAt t (x .0) (y .0))
-
-given : (m : Message) (t : Track) (xs ys : List ℤ) → carriedOf m ≡ C.One t → shiftedOf m xs ys .refusal ≡ numbered success → Given m t xs ys
-given m t xs ys e r = content (encodedOf m .fits) refl
-  where
-    number : {h : Shifted} → shiftedOf m xs ys ≡ h → h .refusal .number ≡ 0
-    number q = sym (ap (λ (h : Shifted). h .refusal .number) q) ∙ ap (λ (n : Refusal). n .number) r
-
-    finished : (s : Steps) → movedOf (t .x .0) (t .y .0) xs ys ≡ s → shiftedOf m xs ys ≡ finishedOf m t s → Given m t xs ys
-    finished (P.At a b) q f = record { x = a; y = b; steps = q; whole = ap (λ (h : Shifted). h .message) f }
-    finished (P.Refused n axis) q f = absurd (omega (arith, number f, moving-as _ _ xs ys _ q))
-
-    content : (b : Bool) → encodedOf m .fits ≡ b → Given m t xs ys
-    content true f = finished (movedOf (t .x .0) (t .y .0) xs ys) refl (shifted-one m xs ys t e true f)
-    content false f = absurd (omega (arith, number (shifted-one m xs ys t e false f)))
-
--- a message with the track data of its own, with others, and with others again
-record Carries (m : Message) (t : Track) : Type 0 where
-  own : withTrack m t ≡ m
-  other : (u : Track) → carriedOf (withTrack m u) ≡ C.One u
-  again : (u v : Track) → withTrack (withTrack m u) v ≡ withTrack m v
-
-carries : (m : Message) (t : Track) → carriedOf m ≡ C.One t → Carries m t
-carries m.Blank t e = zero-one (cc)
-carries m.S0 t e = zero-one (cc)
-carries (m.S3 x) t e = zero-one (cc)
-carries (m.S4 s) t e = record { own = cc; other = λ u. refl; again = λ u v. refl }
-carries (m.S4Plus s) t e = record { own = cc; other = λ u. refl; again = λ u v. refl }
-carries (m.S5 x) t e = zero-one (cc)
-carries (m.S6 x) t e = zero-one (cc)
-carries (m.S8 s) t e = record { own = cc; other = λ u. refl; again = λ u v. refl }
-carries (m.S8Plus s) t e = record { own = cc; other = λ u. refl; again = λ u v. refl }
 
 module _ (m : Message) (xs ys : List ℤ) (ox : OddMultiple (sumZ xs) → ⊥) (oy : OddMultiple (sumZ ys) → ⊥) where
   -- the message after the way there, and after the way back
@@ -152,19 +189,17 @@ module _ (m : Message) (xs ys : List ℤ) (ox : OddMultiple (sumZ xs) → ⊥) (
   abbrev pub back : Message → Shifted
   back n = shiftedOf n (negℤ (sumZ xs) ∷ []) (negℤ (sumZ ys) ∷ [])
 
-  carried-back : (t : Track) → carriedOf m ≡ C.One t → Given m t xs ys → back there .refusal ≡ numbered success → back there .message ≡ m
-  carried-back t e g r =
-      let u = placedAt t (g .x .0) (g .y .0) in
-      let k = carries m t e in
-      let h = given (withTrack m u) u (negℤ (sumZ xs) ∷ []) (negℤ (sumZ ys) ∷ []) (k .other u) (sym (ap (λ (n : Message). back n .refusal) (g .whole)) ∙ r) in
-      let p = position-back (t .x .0) (t .y .0) xs ys (g .x) (g .y) (h .x) (h .y) ox oy (g .steps) (h .steps) in
-      ap (λ (n : Message). back n .message) (g .whole) ∙ h .whole ∙ k .again u (placedAt u (h .x .0) (h .y .0))
-      ∙ ap₂ (λ (x y : ℤ). withTrack m (placedAt t x y)) (p .0) (p .1) ∙ k .own
-
   -- two shifts that are not refused, there and back, give the message back
   pub shift-back : shiftedOf m xs ys .refusal ≡ numbered success → back there .refusal ≡ numbered success → back there .message ≡ m
-  shift-back q r = go (carriedOf m) refl
-    where
-      go : (k : Carried) → carriedOf m ≡ k → back there .message ≡ m
-      go (C.One t) e = carried-back t e (given m t xs ys e q) r
-      go C.None e = absurd (omega (arith, sym (ap (λ (h : Shifted). h .refusal .number) (shifted-none m xs ys e)) ∙ ap (λ (n : Refusal). n .number) q))
+  shift-back q r =
+      let somewhere = passed m xs ys q .0 in
+      let p = placed m xs ys q in
+      let n = placedAt m (newX m xs) (newY m ys) in
+      let s : back n .refusal ≡ numbered success = sym (ap (λ (k : Message). back k .refusal) p) ∙ r in
+      ap (λ (k : Message). back k .message) p
+      ∙ placed n (negℤ (sumZ xs) ∷ []) (negℤ (sumZ ys) ∷ []) s
+      ∙ placed-again m (newX m xs) (newY m ys) (newX n (negℤ (sumZ xs) ∷ [])) (newY n (negℤ (sumZ ys) ∷ []))
+      ∙ ap₂ (placedAt m)
+      (ap (λ (z : ℤ). movedTo z (negℤ (sumZ xs) ∷ [])) (placed-x m (newX m xs) (newY m ys) somewhere) ∙ moved-back (xOf (positionOf m)) xs ox)
+      (ap (λ (z : ℤ). movedTo z (negℤ (sumZ ys) ∷ [])) (placed-y m (newX m xs) (newY m ys) somewhere) ∙ moved-back (yOf (positionOf m)) ys oy)
+      ∙ placed-own m

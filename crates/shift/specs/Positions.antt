@@ -1,33 +1,50 @@
 -- Which messages have a position (01, 'Messages': S.4, S.4+, S.8 and S.8+), and a message with another.
-use lib.IntN.{ℤ}
+use mathlib.Core.Bool.{Bool, true, false}
+use lib.IntN.{ℤ, pos}
 use Rattle.message.specs.declared.Track.{Track}
 use Rattle.message.specs.declared.Message.{Message}
 use Rattle.message.specs.declared.Message.the-variants.{Blank, S0, S3, S4, S4Plus, S5, S6, S8, S8Plus}
-use Rattle.shift.specs.declared.Carried.{Carried}
-use Rattle.shift.specs.declared.Carried.the-variants as C
+use Rattle.shift.specs.declared.Position.{Position}
+use Rattle.shift.specs.declared.Position.the-variants.{At, Nowhere}
 
-abbrev pub carriedOf : Message → Carried
-carriedOf Blank = C.None
-carriedOf S0 = C.None
-carriedOf (S3 x) = C.None
-carriedOf (S4 t) = C.One t
-carriedOf (S4Plus t) = C.One t
-carriedOf (S5 x) = C.None
-carriedOf (S6 x) = C.None
-carriedOf (S8 t) = C.One t
-carriedOf (S8Plus t) = C.One t
+abbrev pub trackPosition : Track → Position
+trackPosition t = At (t .x) (t .y)
+
+abbrev pub positionOf : Message → Position
+positionOf Blank = Nowhere
+positionOf S0 = Nowhere
+positionOf (S3 i) = Nowhere
+positionOf (S4 t) = trackPosition t
+positionOf (S4Plus t) = trackPosition t
+positionOf (S5 a) = Nowhere
+positionOf (S6 s) = Nowhere
+positionOf (S8 t) = trackPosition t
+positionOf (S8Plus t) = trackPosition t
+
+-- X and Y in steps, 0 where there is no position
+abbrev pub isSomewhere : Position → Bool
+isSomewhere (At x y) = true
+isSomewhere Nowhere = false
+
+abbrev pub xOf : Position → ℤ
+xOf (At x y) = x .0
+xOf Nowhere = pos 0
+
+abbrev pub yOf : Position → ℤ
+yOf (At x y) = y .0
+yOf Nowhere = pos 0
 
 -- all else in the message stays
-abbrev pub placedAt : Track → ℤ → ℤ → Track
-placedAt t x y = record { number = t .number; quality = t .quality; x = record { 0 = x }; y = record { 0 = y } }
+abbrev pub placedTrack : Track → ℤ → ℤ → Track
+placedTrack t x y = record { number = t .number; quality = t .quality; x = record { 0 = x }; y = record { 0 = y } }
 
-abbrev pub withTrack : Message → Track → Message
-withTrack Blank t = Blank
-withTrack S0 t = S0
-withTrack (S3 x) t = S3 x
-withTrack (S4 s) t = S4 t
-withTrack (S4Plus s) t = S4Plus t
-withTrack (S5 x) t = S5 x
-withTrack (S6 x) t = S6 x
-withTrack (S8 s) t = S8 t
-withTrack (S8Plus s) t = S8Plus t
+abbrev pub placedAt : Message → ℤ → ℤ → Message
+placedAt Blank x y = Blank
+placedAt S0 x y = S0
+placedAt (S3 i) x y = S3 i
+placedAt (S4 t) x y = S4 (placedTrack t x y)
+placedAt (S4Plus t) x y = S4Plus (placedTrack t x y)
+placedAt (S5 a) x y = S5 a
+placedAt (S6 s) x y = S6 s
+placedAt (S8 t) x y = S8 (placedTrack t x y)
+placedAt (S8Plus t) x y = S8Plus (placedTrack t x y)

@@ -1,33 +1,33 @@
 // The shift of a message: a position on both axes, moved by lists of offsets in feet. The feet are added exactly and rounded once, at the end.
 
 ghost use mathlib.Core.Path.{_≡_};
-ghost use Rattle.units.specs.Steps.{near};
-ghost use Rattle.shift.specs.Positions.{carriedOf, withTrack, placedAt};
-ghost use Rattle.shift.specs.Shift.{sumsOf, stepsOf, movedOf, finishedOf, shiftedOf};
+ghost use Rattle.units.specs.Steps.{nearestTo};
+ghost use Rattle.shift.specs.Positions.{trackPosition, positionOf, placedTrack, placedAt};
+ghost use Rattle.shift.specs.Shift.{sumsOf, movesTo, movesOf, leftAs, finishedOf, shiftedOf};
 use message::Message;
 use message::Track;
 use refusal::Refusal;
 use units::Feet;
 use units::LinkSteps;
-use units::Step;
+use units::Moved;
 use units::Summed;
 
-// The track data that a message carries.
-pub enum Carried {
-    One(Track),
-    None,
+// Where a message says that its track is, if it says so.
+pub enum Position {
+    At(LinkSteps, LinkSteps),
+    Nowhere,
 }
 
-// The sums of both lists, or a refusal's number and axis.
+// The sums of both lists, or the refusal of one.
 pub enum Sums {
     Of(Feet, Feet),
-    Refused(u8, u8),
+    Refused(Refusal),
 }
 
-// A new position, or a refusal's number and axis.
-pub enum Steps {
-    At(LinkSteps, LinkSteps),
-    Refused(u8, u8),
+// The steps that both axes move to, or the refusal of one.
+pub enum Moves {
+    To(LinkSteps, LinkSteps),
+    Refused(Refusal),
 }
 
 // The message with its new position; on a refusal the message as it was.
@@ -36,42 +36,33 @@ pub struct Shifted {
     pub message: Message,
 }
 
-fn track_in(m: Message) -> Carried
-    ensures { λ r. ⌜ r ≡ carriedOf m ⌝ }
+fn track_position(t: Track) -> Position
+    ensures { λ r. ⌜ r ≡ trackPosition t ⌝ }
 {
-    match m {
-        Message::Blank => Carried::None,
-        Message::S0 => Carried::None,
-        Message::S3(_) => Carried::None,
-        Message::S4(t) => Carried::One(t),
-        Message::S4Plus(t) => Carried::One(t),
-        Message::S5(_) => Carried::None,
-        Message::S6(_) => Carried::None,
-        Message::S8(t) => Carried::One(t),
-        Message::S8Plus(t) => Carried::One(t),
-    }
+    let x = t.x;
+    let y = t.y;
+    Position::At(x, y)
 }
 
-// The message with other track data.
-fn with_track(m: Message, t: Track) -> Message
-    ensures { λ r. ⌜ r ≡ withTrack m t ⌝ }
+fn find_position(m: Message) -> Position
+    ensures { λ r. ⌜ r ≡ positionOf m ⌝ }
 {
     match m {
-        Message::Blank => m,
-        Message::S0 => m,
-        Message::S3(_) => m,
-        Message::S4(_) => Message::S4(t),
-        Message::S4Plus(_) => Message::S4Plus(t),
-        Message::S5(_) => m,
-        Message::S6(_) => m,
-        Message::S8(_) => Message::S8(t),
-        Message::S8Plus(_) => Message::S8Plus(t),
+        Message::Blank => Position::Nowhere,
+        Message::S0 => Position::Nowhere,
+        Message::S3(_) => Position::Nowhere,
+        Message::S4(t) => track_position(t),
+        Message::S4Plus(t) => track_position(t),
+        Message::S5(_) => Position::Nowhere,
+        Message::S6(_) => Position::Nowhere,
+        Message::S8(t) => track_position(t),
+        Message::S8Plus(t) => track_position(t),
     }
 }
 
 // The same track elsewhere.
-fn place(t: Track, x: LinkSteps, y: LinkSteps) -> Track
-    ensures { λ r. ⌜ r ≡ placedAt t (x .0) (y .0) ⌝ }
+fn place_track(t: Track, x: LinkSteps, y: LinkSteps) -> Track
+    ensures { λ r. ⌜ r ≡ placedTrack t (x .0) (y .0) ⌝ }
 {
     Track {
         number: t.number,
@@ -81,57 +72,80 @@ fn place(t: Track, x: LinkSteps, y: LinkSteps) -> Track
     }
 }
 
+// The same message elsewhere.
+fn place(m: Message, x: LinkSteps, y: LinkSteps) -> Message
+    ensures { λ r. ⌜ r ≡ placedAt m (x .0) (y .0) ⌝ }
+{
+    match m {
+        Message::Blank => m,
+        Message::S0 => m,
+        Message::S3(_) => m,
+        Message::S4(t) => Message::S4(place_track(t, x, y)),
+        Message::S4Plus(t) => Message::S4Plus(place_track(t, x, y)),
+        Message::S5(_) => m,
+        Message::S6(_) => m,
+        Message::S8(t) => Message::S8(place_track(t, x, y)),
+        Message::S8Plus(t) => Message::S8Plus(place_track(t, x, y)),
+    }
+}
+
 fn add_both(xs: &[i32], ys: &[i32]) -> Sums
     ensures { λ r. ⌜ r ≡ sumsOf (now (xs .entry)) (now (ys .entry)) ⌝ }
 {
     if 8 < xs.len() {
-        return Sums::Refused(refusal::BAD_LENGTH, 1);
+        return Sums::Refused(Refusal::at(refusal::BAD_LENGTH, 1));
     }
     if 8 < ys.len() {
-        return Sums::Refused(refusal::BAD_LENGTH, 2);
+        return Sums::Refused(Refusal::at(refusal::BAD_LENGTH, 2));
     }
     let Summed::To(dx) = units::add_up(xs) else {
-        return Sums::Refused(refusal::OUT_OF_RANGE, 1);
+        return Sums::Refused(Refusal::at(refusal::OUT_OF_RANGE, 1));
     };
     let Summed::To(dy) = units::add_up(ys) else {
-        return Sums::Refused(refusal::OUT_OF_RANGE, 2);
+        return Sums::Refused(Refusal::at(refusal::OUT_OF_RANGE, 2));
     };
     Sums::Of(dx, dy)
 }
 
-// Rounds both axes.
-fn round_both(fx: Feet, fy: Feet) -> Steps
-    ensures { λ r. ⌜ r ≡ stepsOf (near (fx .0)) (near (fy .0)) ⌝ }
+fn step_both(x: LinkSteps, dx: Feet, y: LinkSteps, dy: Feet) -> Moves
+    ensures { λ r. ⌜ r ≡ movesTo (nearestTo (x .0) (dx .0)) (nearestTo (y .0) (dy .0)) ⌝ }
 {
-    let Step::At(x) = units::nearest_step(fx) else {
-        return Steps::Refused(refusal::OUT_OF_RANGE, 1);
+    let Moved::To(a) = units::move_step(x, dx) else {
+        return Moves::Refused(Refusal::at(refusal::OUT_OF_RANGE, 1));
     };
-    let Step::At(y) = units::nearest_step(fy) else {
-        return Steps::Refused(refusal::OUT_OF_RANGE, 2);
+    let Moved::To(b) = units::move_step(y, dy) else {
+        return Moves::Refused(Refusal::at(refusal::OUT_OF_RANGE, 2));
     };
-    Steps::At(x, y)
+    Moves::To(a, b)
 }
 
-fn move_both(x: LinkSteps, y: LinkSteps, xs: &[i32], ys: &[i32]) -> Steps
-    ensures { λ r. ⌜ r ≡ movedOf (x .0) (y .0) (now (xs .entry)) (now (ys .entry)) ⌝ }
+fn move_both(x: LinkSteps, y: LinkSteps, xs: &[i32], ys: &[i32]) -> Moves
+    ensures { λ r. ⌜ r ≡ movesOf (x .0) (y .0) (now (xs .entry)) (now (ys .entry)) ⌝ }
 {
     match add_both(xs, ys) {
-        Sums::Refused(n, axis) => Steps::Refused(n, axis),
-        Sums::Of(dx, dy) => round_both(units::moved(x, dx), units::moved(y, dy)),
+        Sums::Refused(r) => Moves::Refused(r),
+        Sums::Of(dx, dy) => step_both(x, dx, y, dy),
     }
 }
 
-fn finish(m: Message, t: Track, s: Steps) -> Shifted
-    ensures { λ r. ⌜ r ≡ finishedOf m t s ⌝ }
+// A refusal leaves the message as it was.
+fn refuse(m: Message, r: Refusal) -> Shifted
+    ensures { λ s. ⌜ s ≡ leftAs m r ⌝ }
 {
-    match s {
-        Steps::Refused(n, axis) => Shifted {
-            refusal: Refusal::at(n, axis),
-            message: m,
-        },
-        Steps::At(x, y) => Shifted {
+    Shifted {
+        refusal: r,
+        message: m,
+    }
+}
+
+fn finish(m: Message, moves: Moves) -> Shifted
+    ensures { λ r. ⌜ r ≡ finishedOf m moves ⌝ }
+{
+    match moves {
+        Moves::Refused(r) => refuse(m, r),
+        Moves::To(x, y) => Shifted {
             refusal: Refusal::of(refusal::SUCCESS),
-            message: with_track(m, place(t, x, y)),
+            message: place(m, x, y),
         },
     }
 }
@@ -140,20 +154,12 @@ fn finish(m: Message, t: Track, s: Steps) -> Shifted
 pub fn shift(m: Message, xs: &[i32], ys: &[i32]) -> Shifted
     ensures { λ r. ⌜ r ≡ shiftedOf m (now (xs .entry)) (now (ys .entry)) ⌝ }
 {
-    let Carried::One(t) = track_in(m) else {
-        return Shifted {
-            refusal: Refusal::of(refusal::NO_POSITION),
-            message: m,
-        };
+    let Position::At(x, y) = find_position(m) else {
+        return refuse(m, Refusal::of(refusal::NO_POSITION));
     };
     let word = message::encode(m);
     if !word.fits {
-        return Shifted {
-            refusal: Refusal::at(refusal::BAD_CONTENT, 1),
-            message: m,
-        };
+        return refuse(m, Refusal::at(refusal::BAD_CONTENT, 1));
     }
-    let x = t.x;
-    let y = t.y;
-    finish(m, t, move_both(x, y, xs, ys))
+    finish(m, move_both(x, y, xs, ys))
 }

@@ -1,19 +1,19 @@
 -- `near` is the nearest step, with a half away from zero, and the only such step. Assumes nothing.
 use mathlib.Core.Bool.{Bool, true, false}
-use mathlib.Core.Path.{_≡_, refl, sym, ap}
+use mathlib.Core.Path.{_≡_, refl, sym, ap, subst}
 use Prim.Native.Nat.{ℕ, suc, _+_, _*_, min, _≤_, _<_}
 use native.Mathlib.Omega.{arith}
-use borrow.Author.Tests.{ltb-false}
-use lib.Dec.{ltb}
+use borrow.Author.Tests.{leb-true}
 use lib.IntN.{ℤ, pos, negsuc, negℤ, natAbs, _-ℤ_, _*ℤ_}
 use lib.Signed.{leZ}
 use Rattle.bits.specs.Tests.{pick}
 use Rattle.units.specs.Steps.{near}
-use Rattle.units.specs.Heights.{nearAlt, heightOf}
+use Rattle.units.specs.Heights.{nearAlt, altitudeOf, heightChecks, heightRefusal, heightOf}
 use Rattle.units.specs.Nearest.{dist, Nearest}
 use Rattle.units.specs.declared.AltSteps.{AltSteps}
 use Rattle.units.specs.declared.Height.the-variants as H
 use Rattle.bits.proofs.TestLaws.{zero-one}
+use Rattle.refusal.proofs.CheckLaws.{success-passed, answer-is}
 use Rattle.units.proofs.Parts.{up, dn, side, abs-parts, from-parts, add-parts, neg-parts, mul-parts, le-false}
 use Rattle.units.proofs.Rounding.{near-parts}
 
@@ -93,16 +93,26 @@ module _ (k : ℕ) (f : ℤ) where
 pub nearest-is : (f n : ℤ) → Nearest 750 f n → n ≡ near f
 nearest-is f n p = nearest-only 750 f n (near f) (omega arith) p (near-nearest f)
 
--- ---- an altitude is never 0, and never over 511
+-- ---- what `altitude` answers: never 0, never over 511, and above 375 feet the nearest step
 
-pub height-range : (f : ℤ) (n : AltSteps) → heightOf f ≡ H.At n → (1 ≤ n .0) × (n .0 ≤ 511)
-unfolding heightOf nearAlt
-height-range f n = go (leZ f (pos 375)) refl (ltb 511 (nearAlt (natAbs f))) refl
-  where
-    go : (a : Bool) → leZ f (pos 375) ≡ a → (b : Bool) → ltb 511 (nearAlt (natAbs f)) ≡ b
-        → pick a (H.At (record { 0 = 1 })) (pick b H.TooHigh (H.At (record { 0 = nearAlt (natAbs f) }))) ≡ H.At n → (1 ≤ n .0) × (n .0 ≤ 511)
-    go true p b q e = let z : 1 ≡ n .0 = cc in (omega (arith, z), omega (arith, z))
-    go false p true q e = zero-one (cc)
-    go false p false q e =
-        let z : nearAlt (natAbs f) ≡ n .0 = cc in
-        (omega (arith, z, le-false f (pos 375) p, abs-parts f, side f), omega (arith, z, ltb-false 511 (nearAlt (natAbs f)) q))
+module _ (f : ℤ) (n : AltSteps) (e : heightOf f ≡ H.At n) where
+  answered-at : (altitudeOf f ≤ 511) × (altitudeOf f ≡ n .0)
+  unfolding heightOf heightRefusal
+  answered-at =
+      let q = answer-is H.Refused (H.At (record { 0 = altitudeOf f })) (heightRefusal f) (H.At n) (λ r z. zero-one (cc)) e in
+      (leb-true _ _ (success-passed (heightChecks f) refl (q .0) .0), cc)
+
+  pub height-range : (1 ≤ n .0) × (n .0 ≤ 511)
+  unfolding altitudeOf nearAlt
+  height-range = go (leZ f (pos 375)) refl (answered-at .0) (answered-at .1)
+    where
+      go : (a : Bool) → leZ f (pos 375) ≡ a → pick a 1 (nearAlt (natAbs f)) ≤ 511 → pick a 1 (nearAlt (natAbs f)) ≡ n .0 → (1 ≤ n .0) × (n .0 ≤ 511)
+      go true p l z = (omega arith, omega arith)
+      go false p l z = (omega (arith, le-false f (pos 375) p, abs-parts f, side f), omega arith)
+
+  pub height-nearest : leZ f (pos 375) ≡ false → Nearest 375 f (pos (n .0))
+  unfolding altitudeOf
+  height-nearest p =
+      let above : pos (natAbs f) ≡ f = from-parts (pos (natAbs f)) f (omega (arith, le-false f (pos 375) p, abs-parts f, side f)) in
+      let is : nearAlt (natAbs f) ≡ n .0 = rw p at (answered-at .1) in
+      rw (← is) (subst (λ (z : ℤ). Nearest 375 z (pos (nearAlt (natAbs f)))) above (alt-nearest (natAbs f)))

@@ -1,35 +1,49 @@
--- The order of offsets does not matter: exchanging two neighbours, by which any order is reached, changes nothing. Assumes nothing.
-use mathlib.Core.Path.{_≡_, refl, sym, ap, _∙_}
+-- The order of offsets does not matter: a list in any other order is as long, as good, and has one sum. Assumes nothing.
+use mathlib.Core.Path.{_≡_, refl, sym, ap, ap₂, _∙_}
 use mathlib.Core.Bool.{Bool, true, false}
-use mathlib.Core.List.{List, [], _∷_, _++_}
+use mathlib.Core.List.{List, [], _∷_, List·Permᴰ, List·Permᴰ·nil, List·Permᴰ·cons, List·Permᴰ·swap, List·Permᴰ·trans}
 use Prim.Native.Nat.{suc}
 use lib.IntN.{ℤ, _+ℤ_, +ℤ-assoc, +ℤ-comm}
 use lib.ListN.{length}
 use Rattle.bits.specs.Tests.{both}
 use Rattle.units.specs.Offsets.{isOffset, areOffsets, sumZ}
 
--- two lists that are as long, as good, and have one sum
 pub record Alike (xs ys : List ℤ) : Type 0 where
   pub long : length xs ≡ length ys
   pub good : areOffsets xs ≡ areOffsets ys
   pub sum : sumZ xs ≡ sumZ ys
-
-pub alike-self : (xs : List ℤ) → Alike xs xs
-alike-self xs = record { long = refl; good = refl; sum = refl }
 
 both-exchanged : (a b c : Bool) → both a (both b c) ≡ both b (both a c)
 both-exchanged true b c = refl
 both-exchanged false true c = refl
 both-exchanged false false c = refl
 
-pub exchanged : (us : List ℤ) (a b : ℤ) (vs : List ℤ) → Alike (us ++ a ∷ b ∷ vs) (us ++ b ∷ a ∷ vs)
+module _ (a b : ℤ) (l : List ℤ) where
+  good-exchanged : areOffsets (a ∷ b ∷ l) ≡ areOffsets (b ∷ a ∷ l)
+  unfolding areOffsets
+  good-exchanged = both-exchanged (isOffset a) (isOffset b) (areOffsets l)
+
+  sum-exchanged : sumZ (a ∷ b ∷ l) ≡ sumZ (b ∷ a ∷ l)
+  unfolding sumZ
+  sum-exchanged = sym (+ℤ-assoc a b (sumZ l)) ∙ ap (λ (z : ℤ). z +ℤ sumZ l) (+ℤ-comm a b) ∙ +ℤ-assoc b a (sumZ l)
+
+pub alike : {xs ys : List ℤ} → List·Permᴰ xs ys → Alike xs ys
 unfolding areOffsets sumZ
-exchanged [] a b vs =
+alike List·Permᴰ·nil = record { long = refl; good = refl; sum = refl }
+alike (List·Permᴰ·cons e d) =
+    let i = alike d in
+    record {
+      long = ap suc (i .long);
+      good = ap₂ (λ (x : ℤ) (t : Bool). both (isOffset x) t) e (i .good);
+      sum = ap₂ _+ℤ_ e (i .sum);
+    }
+alike (List·Permᴰ·swap {a} {b} {l = l} e f) =
     record {
       long = refl;
-      good = both-exchanged (isOffset a) (isOffset b) (areOffsets vs);
-      sum = sym (+ℤ-assoc a b (sumZ vs)) ∙ ap (λ (z : ℤ). z +ℤ sumZ vs) (+ℤ-comm a b) ∙ +ℤ-assoc b a (sumZ vs);
+      good = good-exchanged a b l ∙ ap₂ (λ (x y : ℤ). areOffsets (x ∷ y ∷ l)) f e;
+      sum = sum-exchanged a b l ∙ ap₂ (λ (x y : ℤ). sumZ (x ∷ y ∷ l)) f e;
     }
-exchanged (u ∷ us) a b vs =
-    let e = exchanged us a b vs in
-    record { long = ap suc (e .long); good = ap (both (isOffset u)) (e .good); sum = ap (λ (z : ℤ). u +ℤ z) (e .sum) }
+alike (List·Permᴰ·trans d₁ d₂) =
+    let i = alike d₁ in
+    let j = alike d₂ in
+    record { long = i .long ∙ j .long; good = i .good ∙ j .good; sum = i .sum ∙ j .sum }

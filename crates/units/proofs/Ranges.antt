@@ -1,17 +1,18 @@
 -- What the tests of the code say of the ranges of the paper. Assumes nothing.
 use mathlib.Core.Path.{_≡_, refl, sym, ap, _∙_}
 use mathlib.Core.Bool.{Bool, true, false, not}
-use Prim.Native.Nat.{_+_, _≤_}
+use Prim.Native.Nat.{_+_, _≤_, _<_}
 use native.Mathlib.Omega.{arith}
+use borrow.Author.Tests.{le-leb}
 use lib.IntN.{ℤ, pos, negsuc}
-use lib.Signed.{leZ, ltZ}
+use lib.Signed.{mag, leZ, ltZ}
 use mir.Syntax.{w16}
 use mir.Val.{SFits}
 use Rattle.bits.specs.Tests.{pick, both}
 use Rattle.units.specs.Offsets.{within}
-use Rattle.units.specs.Steps.{isStep, stepOf}
+use Rattle.units.specs.Steps.{nearestTo, isStep, movedBy}
 use Rattle.units.specs.declared.LinkSteps.{LinkSteps}
-use Rattle.units.specs.declared.Step.the-variants as S
+use Rattle.units.specs.declared.Moved.the-variants as M
 use Rattle.bits.proofs.TestLaws.{zero-one, both-true, both-false}
 use Rattle.units.proofs.Parts.{up, dn, le-is, le-true, lt-false, sfits, side}
 
@@ -36,43 +37,47 @@ module _ (lo hi z : ℤ) where
   unfolding within
   within-parts e = let p = both-true e in (le-true lo z (p .0), le-true z hi (p .1))
 
--- ---- a position, by the tests of its steps
+-- ---- a move, by the tests of its steps
 
-placed : (n : ℤ) {b c : Bool} → b ≡ c → pick c (S.At (record { 0 = n })) S.OutOfRange ≡ pick b (S.At (record { 0 = n })) S.OutOfRange
-placed n e = sym (ap (λ (b : Bool). pick b (S.At (record { 0 = n })) S.OutOfRange) e)
+module _ (old feet : ℤ) where
+  abbrev n : ℤ
+  n = nearestTo old feet
 
-module _ (n : ℤ) where
-  pub step-below : ltZ n (negsuc 4095) ≡ true → S.OutOfRange ≡ stepOf n
-  unfolding stepOf
-  step-below e = placed n (within-below _ _ n e)
+  moved-as : (b : Bool) → isStep n ≡ b → pick b (M.To (record { 0 = n })) M.OutOfRange ≡ movedBy old feet
+  unfolding movedBy
+  moved-as b e = sym (ap (λ (t : Bool). pick t (M.To (record { 0 = n })) M.OutOfRange) e)
 
-  pub step-above : ltZ (pos 4095) n ≡ true → S.OutOfRange ≡ stepOf n
-  unfolding stepOf
-  step-above e = placed n (within-above _ _ n e)
+  pub moved-below : ltZ n (negsuc 4095) ≡ true → M.OutOfRange ≡ movedBy old feet
+  moved-below e = moved-as false (within-below _ _ n e)
 
-  pub step-yes : ltZ n (negsuc 4095) ≡ false → ltZ (pos 4095) n ≡ false → S.At (record { 0 = n }) ≡ stepOf n
-  unfolding stepOf
-  step-yes e f = placed n (within-yes _ _ n e f)
+  pub moved-above : ltZ (pos 4095) n ≡ true → M.OutOfRange ≡ movedBy old feet
+  moved-above e = moved-as false (within-above _ _ n e)
 
-  pub step-fits : ltZ n (negsuc 4095) ≡ false → ltZ (pos 4095) n ≡ false → SFits w16 n
-  step-fits e f =
-      sfits w16 n
-      (omega (arith, lt-false n (negsuc 4095) e, lt-false (pos 4095) n f, side n))
+  pub moved-yes : ltZ n (negsuc 4095) ≡ false → ltZ (pos 4095) n ≡ false → M.To (record { 0 = n }) ≡ movedBy old feet
+  moved-yes e f = moved-as true (within-yes _ _ n e f)
 
--- ---- what a position that is answered says of the tests
+  -- what a move that is answered says of the tests
+  pub moved-is : (p : LinkSteps) → movedBy old feet ≡ M.To p → (isStep n ≡ true) × (p ≡ record { 0 = n })
+  unfolding movedBy
+  moved-is p = go (isStep n)
+    where
+      go : (b : Bool) → pick b (M.To (record { 0 = n })) M.OutOfRange ≡ M.To p → (b ≡ true) × (p ≡ record { 0 = n })
+      go true e = (refl, cc)
+      go false e = zero-one (cc)
 
-pub step-is : (n : ℤ) (p : LinkSteps) → stepOf n ≡ S.At p → (isStep n ≡ true) × (p ≡ record { 0 = n })
-unfolding stepOf
-step-is n p = go (isStep n)
-  where
-    go : (b : Bool) → pick b (S.At (record { 0 = n })) S.OutOfRange ≡ S.At p → (b ≡ true) × (p ≡ record { 0 = n })
-    go true e = (refl, cc)
-    go false e = zero-one (cc)
+  pub moved-not : movedBy old feet ≡ M.OutOfRange → isStep n ≡ false
+  unfolding movedBy
+  moved-not = go (isStep n)
+    where
+      go : (b : Bool) → pick b (M.To (record { 0 = n })) M.OutOfRange ≡ M.OutOfRange → b ≡ false
+      go true e = zero-one (cc)
+      go false e = refl
 
-pub step-not : (n : ℤ) → stepOf n ≡ S.OutOfRange → isStep n ≡ false
-unfolding stepOf
-step-not n = go (isStep n)
-  where
-    go : (b : Bool) → pick b (S.At (record { 0 = n })) S.OutOfRange ≡ S.OutOfRange → b ≡ false
-    go true e = zero-one (cc)
-    go false e = refl
+pub step-fits : (n : ℤ) → ltZ n (negsuc 4095) ≡ false → ltZ (pos 4095) n ≡ false → SFits w16 n
+step-fits n e f = sfits w16 n (omega (arith, lt-false n (negsuc 4095) e, lt-false (pos 4095) n f, side n))
+
+-- a step is what twelve bits and a sign hold
+pub mag-step : (z : ℤ) → mag z < 4096 → isStep z ≡ true
+unfolding within
+mag-step (pos n) h = le-leb n 4095 (omega arith)
+mag-step (negsuc n) h = ap (λ (t : Bool). both t true) (le-leb n 4095 (omega arith))

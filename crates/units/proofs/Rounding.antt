@@ -1,11 +1,11 @@
 -- The rounding to link steps: by its parts; as the code computes it; as the paper words it. Assumes nothing.
 use mathlib.Core.Path.{_≡_, refl}
 use mathlib.Core.Bool.{true, false}
-use Prim.Native.Nat.{suc, _+_, _/_}
+use Prim.Native.Nat.{suc, _+_, _/_, _^_, _<_}
 use native.Mathlib.Omega.{arith}
 use lib.IntN.{ℤ, pos, negsuc, _+ℤ_, _-ℤ_}
-use lib.Signed.{ltZ, quotZ}
-use mir.Syntax.{w32, w64}
+use lib.Signed.{mag, ltZ, quotZ}
+use mir.Syntax.{w64}
 use mir.Val.{SFits}
 use Rattle.units.specs.Steps.{near}
 use Rattle.units.proofs.Parts.{up, dn, side, from-parts, add-parts, neg-parts, add-le, quot-parts, quot-le, mag-parts, sfits, lt-true, lt-false}
@@ -17,15 +17,12 @@ near-parts (negsuc n) = (neg-parts (pos ((suc n + 375) / 750)) .0, neg-parts (po
 
 -- ---- as the code computes it
 
-module _ (f : ℤ) (h : SFits w32 f) where
-  pub wide-fits : SFits w64 f
-  wide-fits = sfits w64 f (omega (arith, mag-parts f (h .sfits)))
-
+module _ (f : ℤ) (h : mag f < 2 ^ 40) where
   pub less-fits : SFits w64 (f -ℤ pos 375)
-  less-fits = sfits w64 (f +ℤ negsuc 374) (omega (arith, add-le f (negsuc 374), mag-parts f (h .sfits)))
+  less-fits = sfits w64 (f +ℤ negsuc 374) (omega (arith, add-le f (negsuc 374), mag-parts f h))
 
   pub more-fits : SFits w64 (f +ℤ pos 375)
-  more-fits = sfits w64 (f +ℤ pos 375) (omega (arith, add-le f (pos 375), mag-parts f (h .sfits)))
+  more-fits = sfits w64 (f +ℤ pos 375) (omega (arith, add-le f (pos 375), mag-parts f h))
 
 pub quot-fits : (z : ℤ) → SFits w64 z → SFits w64 (quotZ z (pos 750))
 quot-fits z h = sfits w64 (quotZ z (pos 750)) (omega (arith, quot-le 750 z, mag-parts z (h .sfits)))

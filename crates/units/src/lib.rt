@@ -3,13 +3,13 @@
 
 ghost use mathlib.Core.Path.{_≡_};
 ghost use Prim.Native.Nat.{_<_, _≤_, _^_};
-ghost use lib.IntN.{pos, _+ℤ_, _*ℤ_};
+ghost use lib.IntN.{_+ℤ_};
 ghost use lib.ListN.{length};
 ghost use lib.Signed.{mag};
 ghost use mir.Syntax.{w32};
 ghost use mir.Val.{SFits};
 ghost use Rattle.units.specs.Offsets.{isOffset, summedOf};
-ghost use Rattle.units.specs.Steps.{near, stepOf};
+ghost use Rattle.units.specs.Steps.{near, movedBy};
 ghost use Rattle.units.specs.Heights.{heightOf, refusalOf};
 use refusal::Refusal;
 
@@ -28,16 +28,16 @@ pub enum Summed {
     OutOfRange,
 }
 
-// Where so many feet lie.
-pub enum Step {
-    At(LinkSteps),
+// Where a position has moved to.
+pub enum Moved {
+    To(LinkSteps),
     OutOfRange,
 }
 
-// How high so many feet are.
+// The altitude of so many feet, or the refusal.
 pub enum Height {
     At(AltSteps),
-    TooHigh,
+    Refused(Refusal),
 }
 
 fn is_offset(x: Feet) -> bool
@@ -75,40 +75,32 @@ pub fn add_up(offsets: &[i32]) -> Summed
     Summed::To(sum)
 }
 
-// The exact feet of a position of `old` steps that is moved by so many feet.
-pub fn moved(old: LinkSteps, by: Feet) -> Feet
-    requires { ⌜ mag (by .0) < 2 ^ 30 ⌝ }
-    ensures { λ r. ⌜ r .0 ≡ pos 750 *ℤ old .0 +ℤ by .0 ⌝ }
+// The number nearest to a 750th of a number, a half away from zero.
+fn round(exact: i64) -> i64
+    requires { ⌜ mag exact < 2 ^ 40 ⌝ }
+    ensures { λ r. ⌜ r ≡ near exact ⌝ }
 {
-    let steps = old.0 as i32;
-    Feet(750 * steps + by.0)
-}
-
-// In 64 bits, where a half step more or less cannot overflow.
-fn rounded(f: i64) -> i64
-    requires { ⌜ SFits w32 f ⌝ }
-    ensures { λ r. ⌜ r ≡ near f ⌝ }
-{
-    if f < 0 {
-        (f - 375) / 750
+    if exact < 0 {
+        (exact - 375) / 750
     } else {
-        (f + 375) / 750
+        (exact + 375) / 750
     }
 }
 
-// The step nearest to so many feet, a half away from zero.
-pub fn nearest_step(feet: Feet) -> Step
-    ensures { λ r. ⌜ r ≡ stepOf (near (feet .0)) ⌝ }
+// A position moved by so many feet. Here alone steps and feet meet: 750 times the old value plus the feet, rounded once.
+pub fn move_step(old: LinkSteps, by: Feet) -> Moved
+    ensures { λ r. ⌜ r ≡ movedBy (old .0) (by .0) ⌝ }
 {
-    let f = feet.0 as i64;
-    let n = rounded(f);
+    let steps = old.0 as i64;
+    let feet = by.0 as i64;
+    let n = round(750 * steps + feet);
     if n < -4096 {
-        return Step::OutOfRange;
+        return Moved::OutOfRange;
     }
     if n > 4095 {
-        return Step::OutOfRange;
+        return Moved::OutOfRange;
     }
-    Step::At(LinkSteps(n as i16))
+    Moved::To(LinkSteps(n as i16))
 }
 
 // The altitude of so many feet, never 0: 9.
@@ -121,7 +113,7 @@ pub fn altitude(feet: Feet) -> Height
     }
     let steps = (f as u32 + 187) / 375;
     if 511 < steps {
-        return Height::TooHigh;
+        return Height::Refused(Refusal::of(refusal::OUT_OF_RANGE));
     }
     Height::At(AltSteps(steps as u16))
 }
@@ -133,7 +125,7 @@ impl Height {
     {
         match self {
             Height::At(_) => Refusal::of(refusal::SUCCESS),
-            Height::TooHigh => Refusal::of(refusal::OUT_OF_RANGE),
+            Height::Refused(r) => r,
         }
     }
 }

@@ -1,8 +1,9 @@
 -- `capture::is_frame` meets its contract. Assumes nothing.
 use mathlib.Core.Path.{sym, ap, _∙_}
-use Prim.Native.Nat.{ℕ}
 use borrow.Author.Needs.{needs}
 use lib.Dec.{eqb}
+use Rattle.refusal.specs.Refusals.{success}
+use Rattle.refusal.specs.declared.Refusal.{Refusal}
 use Rattle.capture.proofs.SieveLaws.{lies-good}
 use Rattle.frame.proofs.FrameLaws.{verdict-good}
 use Rattle.capture.proofs.is_frame.Statement.{statement}
@@ -25,7 +26,7 @@ verdict-at-requires c κs = search needs
 
 returns-2 : tie.Need-returns-2
 returns-2 c =
-    ap (λ (n : ℕ). eqb n 0) (c .verdict-at .ensures) ∙ verdict-good _ ∙ lies-good _ _ (search needs)
+    ap (λ (r : Refusal). eqb (r .number) success) (c .before .verdict-at .ensures) ∙ verdict-good _ ∙ lies-good _ _ (search needs)
 
 pub is-frame-spec : {M : Type 1} → statement M
 is-frame-spec = tie.close (tie.spec sub-if1 cast-if1 shr-if1 returns verdict-at-requires returns-2)

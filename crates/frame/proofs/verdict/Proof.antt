@@ -2,7 +2,6 @@
 use mathlib.Core.Path.{sym, ap, _∙_}
 use borrow.Author.Needs.{needs}
 use Rattle.frame.specs.Frame.{frameVerdict}
-use Rattle.refusal.specs.Refusals.{numbered}
 use Rattle.frame.proofs.FrameLaws.{frame-0, verdict-length, verdict-image}
 use Rattle.frame.proofs.verdict.Statement.{statement}
 use Rattle.frame.proofs.verdict.Tie as tie
@@ -11,19 +10,15 @@ of-requires : tie.Need-of-requires
 of-requires c κs = search needs
 
 returns : tie.Need-returns
-returns c = c .of .ensures ∙ ap numbered (sym (verdict-length _ (c .before .if1 .taken)))
+returns c = c .of .ensures ∙ sym (verdict-length _ (c .before .if1 .taken))
 
 verdict-at-requires : tie.Need-verdict-at-requires
 verdict-at-requires c κs = search needs
 
-of-requires-2 : tie.Need-of-requires-2
-of-requires-2 c κs = search needs
-
 returns-2 : tie.Need-returns-2
 returns-2 c =
-    let s = c .before .before .before .before .args .image .now in
-    c .of2 .ensures
-    ∙ ap numbered (c .before .verdict-at .ensures ∙ ap frameVerdict (frame-0 s) ∙ sym (verdict-image s (c .before .before .if1 .left)))
+    let s = c .before .before .before .args .image .now in
+    c .verdict-at .ensures ∙ ap frameVerdict (frame-0 s) ∙ sym (verdict-image s (c .before .if1 .left))
 
 pub verdict-spec : {M : Type 1} → statement M
-verdict-spec = tie.close (tie.spec of-requires returns verdict-at-requires of-requires-2 returns-2)
+verdict-spec = tie.close (tie.spec of-requires returns verdict-at-requires returns-2)

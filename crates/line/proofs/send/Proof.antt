@@ -2,11 +2,14 @@
 use mathlib.Core.Path.{sym, ap, _∙_}
 use native.Mathlib.Omega.{arith}
 use borrow.Author.Needs.{needs}
-use Rattle.refusal.specs.Refusals.{numbered}
+use Prim.Native.Nat.{ℕ}
 use Rattle.refusal.specs.declared.Refusal.{Refusal}
 use Rattle.line.proofs.SendingLaws.{bad-image, bad-buffer, bad-previous, by-verdict, buffer-stays, buffer-written}
 use Rattle.line.proofs.send.Statement.{statement}
 use Rattle.line.proofs.send.Tie as tie
+
+abbrev number : Refusal → ℕ
+number r = r .number
 
 of-requires : tie.Need-of-requires
 of-requires c κs = search needs
@@ -14,7 +17,7 @@ of-requires c κs = search needs
 returns : tie.Need-returns
 returns c =
     let e = bad-image _ _ _ (c .before .if1 .taken) in
-    (c .of .ensures ∙ ap numbered (sym e), buffer-stays _ _ _ 2 e (λ q. omega arith))
+    (c .of .ensures ∙ sym e, buffer-stays _ _ _ _ e (λ q. omega arith))
 
 of-requires-2 : tie.Need-of-requires-2
 of-requires-2 c κs = search needs
@@ -22,7 +25,7 @@ of-requires-2 c κs = search needs
 returns-2 : tie.Need-returns-2
 returns-2 c =
     let e = bad-buffer _ _ _ (c .before .before .if1 .left) (c .before .if2 .taken) in
-    (c .of2 .ensures ∙ ap numbered (sym e), buffer-stays _ _ _ 2 e (λ q. omega arith))
+    (c .of2 .ensures ∙ sym e, buffer-stays _ _ _ _ e (λ q. omega arith))
 
 of-requires-3 : tie.Need-of-requires-3
 of-requires-3 c κs = search needs
@@ -30,7 +33,7 @@ of-requires-3 c κs = search needs
 returns-3 : tie.Need-returns-3
 returns-3 c =
     let e = bad-previous _ _ _ (c .before .before .before .if1 .left) (c .before .before .if2 .left) (c .before .if3 .taken) in
-    (c .of3 .ensures ∙ ap numbered (sym e), buffer-stays _ _ _ 1 e (λ q. omega arith))
+    (c .of3 .ensures ∙ sym e, buffer-stays _ _ _ _ e (λ q. omega arith))
 
 verdict-requires : tie.Need-verdict-requires
 verdict-requires c κs = search needs
@@ -47,8 +50,8 @@ returns-4 c =
     let v = tested .before .before .verdict in
     let p = tested .before .before .before in
     let e = by-verdict _ _ _ (p .before .before .if1 .left) (p .before .if2 .left) (p .if3 .left) in (
-      v .ensures ∙ ap numbered (sym e),
-      c .before .before .put-levels .ensures ∙ buffer-written _ _ _ (e ∙ sym (ap (λ (r : Refusal). r .number) (v .ensures)) ∙ tested .if4 .taken),
+      v .ensures ∙ sym e,
+      c .before .before .put-levels .ensures ∙ buffer-written _ _ _ (ap number (e ∙ sym (v .ensures)) ∙ tested .if4 .taken),
     )
 
 returns-5 : tie.Need-returns-5
@@ -56,8 +59,8 @@ returns-5 c =
     let v = c .before .before .verdict in
     let p = c .before .before .before in
     let e = by-verdict _ _ _ (p .before .before .if1 .left) (p .before .if2 .left) (p .if3 .left) in (
-      v .ensures ∙ ap numbered (sym e),
-      buffer-stays _ _ _ _ e (λ q. c .if4 .left (ap (λ (r : Refusal). r .number) (v .ensures) ∙ q)),
+      v .ensures ∙ sym e,
+      buffer-stays _ _ _ _ e (λ q. c .if4 .left (ap number (v .ensures) ∙ q)),
     )
 
 pub send-spec : {M : Type 1} → statement M

@@ -1,44 +1,15 @@
 -- `listing::put_image` meets its contract. Assumes nothing.
-use borrow.Author.Needs.{needs}
-use mathlib.Core.Path.{_≡_, _∙_}
+use mathlib.Core.Path.{_≡_}
 use mathlib.Core.List.{[], _∷_}
 use native.Mathlib.Omega.{arith}
-use Rattle.listing.specs.Listing.{refused, numbersOf}
-use Rattle.listing.proofs.ListingLaws.{refused-numbers, image-put}
+use Rattle.listing.specs.Listing.{numbersOf}
+use Rattle.listing.proofs.ListingLaws.{image-put}
+use borrow.Author.Needs.{needs}
 use Rattle.listing.proofs.put_image.Statement.{statement}
 use Rattle.listing.proofs.put_image.Tie as tie
 
 enum-known-opened : tie.Need-enum-known-opened
 enum-known-opened c = search needs
-
-refusal-requires : tie.Need-refusal-requires
-refusal-requires c κs = search needs
-
-wide-requires : tie.Need-wide-requires
-wide-requires c κs = search needs
-
-wide-requires-2 : tie.Need-wide-requires-2
-wide-requires-2 c κs = search needs
-
-slice-aggregate-put-row : tie.Need-slice-aggregate-put-row
-slice-aggregate-put-row c = search needs
-
-put-row-requires : tie.Need-put-row-requires
-put-row-requires c κs = search needs
-
-same-length : tie.Need-same-length
-same-length c = search needs
-
-returns : tie.Need-returns
-returns c =
-    let p = c .before .before in
-    let y = p .before .before .wide2 in
-    let x = p .before .before .before .wide in
-    let r = p .before .before .before .before .before in
-    let a = r .before .before .before .args in
-    let same : a .n ∷ x .result ∷ y .result ∷ [] ≡ refused (a .n) (a .opened) = rw (x .ensures .0, y .ensures .0, r .refusal .ensures) in
-    let all = same ∙ refused-numbers (a .n) (a .opened) (r .before .match .keys2) in
-    image-put (a .out .now) (a .at) (a .n) (a .opened) all (omega arith) (omega arith) (p .put-row .ensures .0)
 
 label-requires : tie.Need-label-requires
 label-requires c κs = search needs
@@ -46,11 +17,39 @@ label-requires c κs = search needs
 label-requires-2 : tie.Need-label-requires-2
 label-requires-2 c κs = search needs
 
+slice-aggregate-put-row : tie.Need-slice-aggregate-put-row
+slice-aggregate-put-row c = search needs
+
+put-row-requires : tie.Need-put-row-requires
+put-row-requires c κs = search needs
+
+enum-known-opened-2 : tie.Need-enum-known-opened-2
+enum-known-opened-2 c = search needs
+
+wide-requires : tie.Need-wide-requires
+wide-requires c κs = search needs
+
+wide-requires-2 : tie.Need-wide-requires-2
+wide-requires-2 c κs = search needs
+
 slice-aggregate-put-row-2 : tie.Need-slice-aggregate-put-row-2
 slice-aggregate-put-row-2 c = search needs
 
 put-row-requires-2 : tie.Need-put-row-requires-2
 put-row-requires-2 c κs = search needs
+
+same-length : tie.Need-same-length
+same-length c = search needs
+
+returns : tie.Need-returns
+returns c =
+    let p = c .before .before in
+    let y = p .before .before .label2 in
+    let x = p .before .before .before .label in
+    let o = p .before .before .before .before .before .before in
+    let a = o .before .before .before .args in
+    let same : a .n ∷ 0 ∷ x .result ∷ y .result ∷ [] ≡ numbersOf (a .n) (a .opened) = rw (o .opened .given .1, x .ensures .0, y .ensures .0) in
+    image-put (a .out .now) (a .at) (a .n) (a .opened) same (omega arith) (omega arith) (p .put-row .ensures .0)
 
 same-length-2 : tie.Need-same-length-2
 same-length-2 c = search needs
@@ -58,11 +57,11 @@ same-length-2 c = search needs
 returns-2 : tie.Need-returns-2
 returns-2 c =
     let p = c .before .before in
-    let y = p .before .before .label2 in
-    let x = p .before .before .before .label in
+    let y = p .before .before .wide2 in
+    let x = p .before .before .before .wide in
     let o = p .before .before .before .before .before .before in
     let a = o .before .before .before .args in
-    let same : a .n ∷ 0 ∷ x .result ∷ y .result ∷ [] ≡ numbersOf (a .n) (a .opened) = rw (o .opened .given .1, x .ensures .0, y .ensures .0) in
+    let same : a .n ∷ x .result ∷ y .result ∷ [] ≡ numbersOf (a .n) (a .opened) = rw (o .opened2 .given .1, x .ensures .0, y .ensures .0) in
     image-put (a .out .now) (a .at) (a .n) (a .opened) same (omega arith) (omega arith) (p .put-row2 .ensures .0)
 
 pub put-image-spec : {M : Type 1} → statement M
@@ -70,16 +69,16 @@ put-image-spec =
     tie.close
     (tie.spec
     enum-known-opened
-    refusal-requires
-    wide-requires
-    wide-requires-2
-    slice-aggregate-put-row
-    put-row-requires
-    same-length
-    returns
     label-requires
     label-requires-2
+    slice-aggregate-put-row
+    put-row-requires
+    enum-known-opened-2
+    wide-requires
+    wide-requires-2
     slice-aggregate-put-row-2
     put-row-requires-2
+    same-length
+    returns
     same-length-2
     returns-2)

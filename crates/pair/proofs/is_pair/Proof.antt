@@ -26,7 +26,7 @@ returns c =
     let n = c .before .before in
     let m = c .before in
     ap₂ entry (n .number .ensures .0) (m .number2 .ensures .0)
-    ∙ pair-at (n .before .args .first) (n .before .args .second) (rw (n .number .ensures .0) at (n .number .ensures .1)) (rw (m .number2 .ensures .0) at (m .number2 .ensures .1))
+    ∙ pair-at (n .before .args .first) (n .before .args .second)
 
 pub is-pair-spec : {M : Type 1} → statement M
 is-pair-spec =

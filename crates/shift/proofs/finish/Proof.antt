@@ -3,14 +3,14 @@ use borrow.Author.Needs.{needs}
 use Rattle.shift.proofs.finish.Statement.{statement}
 use Rattle.shift.proofs.finish.Tie as tie
 
-enum-known-s : tie.Need-enum-known-s
-enum-known-s c = search needs
+enum-known-moves : tie.Need-enum-known-moves
+enum-known-moves c = search needs
 
-at-requires : tie.Need-at-requires
-at-requires c κs = search needs
+refuse-requires : tie.Need-refuse-requires
+refuse-requires c κs = search needs
 
-enum-known-s-2 : tie.Need-enum-known-s-2
-enum-known-s-2 c = search needs
+enum-known-moves-2 : tie.Need-enum-known-moves-2
+enum-known-moves-2 c = search needs
 
 of-requires : tie.Need-of-requires
 of-requires c κs = search needs
@@ -18,24 +18,20 @@ of-requires c κs = search needs
 place-requires : tie.Need-place-requires
 place-requires c κs = search needs
 
-with-track-requires : tie.Need-with-track-requires
-with-track-requires c κs = search needs
-
 returns : tie.Need-returns
-returns c = rw (c .before .before .s .given .1, c .at .ensures)
+returns c = rw (c .before .before .moves .given .1) (c .refuse .ensures)
 
 returns-2 : tie.Need-returns-2
-returns-2 c = rw (c .before .before .before .before .s2 .given .1, c .before .before .of .ensures, c .with-track .ensures, c .before .place .ensures)
+returns-2 c = rw (c .before .before .before .moves2 .given .1, c .before .of .ensures, c .place .ensures)
 
 pub finish-spec : {M : Type 1} → statement M
 finish-spec =
     tie.close
     (tie.spec
-    enum-known-s
-    at-requires
-    enum-known-s-2
+    enum-known-moves
+    refuse-requires
+    enum-known-moves-2
     of-requires
     place-requires
-    with-track-requires
     returns
     returns-2)

@@ -1,6 +1,6 @@
 -- `units::altitude` meets its contract. Assumes nothing.
 use borrow.Author.Needs.{needs}
-use borrow.Author.Tests.{lt-ltb, le-ltb}
+use borrow.Author.Tests.{lt-leb, le-leb}
 use mathlib.Core.Path.{_≡_}
 use mathlib.Core.Bool.{false}
 use native.Mathlib.Omega.{arith}
@@ -10,7 +10,7 @@ use lib.Signed.{leZ, nonNeg, natAbs-le}
 use mir.Syntax.{w32}
 use mir.Val.{SFits}
 use mir.Facts.{toZ-ofZ}
-use Rattle.units.specs.Heights.{heightOf, nearAlt}
+use Rattle.units.specs.Heights.{heightOf, heightRefusal, altitudeOf, nearAlt}
 use Rattle.units.proofs.Parts.{le-false, side, nonneg}
 use Rattle.units.proofs.altitude.Statement.{statement}
 use Rattle.units.proofs.altitude.Tie as tie
@@ -19,7 +19,7 @@ feet : (c : tie.After-struct-told) → SFits w32 (c .before .args .feet .0)
 feet c = record { sfits = c .struct-told .given .0 .1 }
 
 returns : tie.Need-returns
-unfolding heightOf
+unfolding heightOf heightRefusal altitudeOf
 returns c =
     let f = feet (c .before) in
     simp (simp toZ-ofZ at (c .if1 .taken))
@@ -38,22 +38,25 @@ add-steps c =
     let f = feet (c .before) in
     simp toZ-ofZ (record { fits = omega (arith, natAbs-le (c .before .before .args .feet .0) (f .sfits)) })
 
-returns-2 : tie.Need-returns-2
-unfolding heightOf nearAlt
-returns-2 c =
-    let f = feet (c .before .before) in
-    let e = simp toZ-ofZ at (c .before .if1 .left) in
-    simp (e, lt-ltb _ _ (simp toZ-ofZ at (c .if2 .taken)))
+of-requires : tie.Need-of-requires
+of-requires c κs = search needs
 
-cast-t8 : tie.Need-cast-t8
-cast-t8 c = search needs
+returns-2 : tie.Need-returns-2
+unfolding heightOf heightRefusal altitudeOf nearAlt
+returns-2 c =
+    let f = feet (c .before .before .before) in
+    let e = simp toZ-ofZ at (c .before .before .if1 .left) in
+    simp (c .of .ensures, e, lt-leb _ _ (simp toZ-ofZ at (c .before .if2 .taken)))
+
+cast-t9 : tie.Need-cast-t9
+cast-t9 c = search needs
 
 returns-3 : tie.Need-returns-3
-unfolding heightOf nearAlt
+unfolding heightOf heightRefusal altitudeOf nearAlt
 returns-3 c =
     let f = feet (c .before .before) in
     let e = simp toZ-ofZ at (c .before .if1 .left) in
-    simp (toZ-ofZ, e, le-ltb _ _ (simp toZ-ofZ at (c .if2 .left)))
+    simp (toZ-ofZ, e, le-leb _ _ (simp toZ-ofZ at (c .if2 .left)))
 
 pub altitude-spec : {M : Type 1} → statement M
-altitude-spec = tie.close (tie.spec returns cast-steps add-steps returns-2 cast-t8 returns-3)
+altitude-spec = tie.close (tie.spec returns cast-steps add-steps of-requires returns-2 cast-t9 returns-3)

@@ -10,7 +10,7 @@ use lib.Dec.{eqb, lit<}
 use lib.Pow.{shr-lt}
 use Rattle.bits.specs.Octets.{bitAt}
 use Rattle.frame.specs.Frame.{goodFrame, verdictOf}
-use Rattle.line.specs.Machine.{windowImage, holdsFrame, noFrame, answerOf}
+use Rattle.line.specs.Machine.{windowImage, holdsFrame, nothingHeard, answerOf}
 use Rattle.line.specs.declared.Heard.{Heard}
 use Rattle.line.specs.declared.Receiver.{Receiver}
 use Rattle.refusal.specs.Refusals.{numbered, success}
@@ -19,12 +19,15 @@ use Rattle.frame.proofs.FrameLaws.{verdict-good, verdict-image, start-octet}
 use Rattle.line.proofs.Receiver.answer.Statement.{statement}
 use Rattle.line.proofs.Receiver.answer.Tie as tie
 
+abbrev good : Refusal → Bool
+good r = eqb (r .number) success
+
 -- a frame is held where the verdict on the window's image is success
-holds-is : (s : Receiver) (image : List ℕ) (t : Bool) → image ≡ windowImage (s .window) → eqb (verdictOf image) 0 ≡ t → holdsFrame s ≡ t
+holds-is : (s : Receiver) (image : List ℕ) (t : Bool) → image ≡ windowImage (s .window) → eqb (verdictOf image .number) success ≡ t → holdsFrame s ≡ t
 unfolding holdsFrame
 holds-is s image t e v =
-    sym (verdict-good (bitAt (windowImage (s .window)))) ∙ ap (λ (n : ℕ). eqb n 0) (sym (verdict-image (windowImage (s .window)) refl))
-    ∙ ap (λ (l : List ℕ). eqb (verdictOf l) 0) (sym e) ∙ v
+    sym (verdict-good (bitAt (windowImage (s .window)))) ∙ ap good (sym (verdict-image (windowImage (s .window)) refl))
+    ∙ ap (λ (l : List ℕ). good (verdictOf l)) (sym e) ∙ v
 
 -- a window whose first octet is not 0 holds none
 not-started : (s : Receiver) → s .window .older < 2 ^ 64 → (s .window .older / 2 ^ 56 ≡ 0 → ⊥) → holdsFrame s ≡ false
@@ -36,18 +39,18 @@ not-started s fits h = go (goodFrame (bitAt (windowImage (s .window)))) refl
     go true e =
         absurd (h (sym (mod-eq-of-lt (shr-lt 8 56 fits)) ∙ start-octet (windowImage (s .window)) e (mod-lt _ (lit< tt))))
 
-none-is : (s : Receiver) → holdsFrame s ≡ false → noFrame s success ≡ answerOf s
+none-is : (s : Receiver) → holdsFrame s ≡ false → nothingHeard s success ≡ answerOf s
 none-is s e = rw e
 
 handed-is : (s : Receiver) (r : Refusal) (image : List ℕ) → holdsFrame s ≡ true → r ≡ numbered success → image ≡ windowImage (s .window)
     → _≡_ {A = Heard} (record { receiver = s; refusal = r; frame = true; image = image }) (answerOf s)
 handed-is s r image e f g = rw (e, f, g)
 
-no-frame-requires : tie.Need-no-frame-requires
-no-frame-requires c κs = search needs
+hear-nothing-requires : tie.Need-hear-nothing-requires
+hear-nothing-requires c κs = search needs
 
 returns : tie.Need-returns
-returns c = c .no-frame .ensures ∙ none-is _ (not-started _ (search needs) (c .before .if1 .taken))
+returns c = c .hear-nothing .ensures ∙ none-is _ (not-started _ (search needs) (c .before .if1 .taken))
 
 image-requires : tie.Need-image-requires
 image-requires c κs = search needs
@@ -67,26 +70,26 @@ returns-2 c =
     let i = c .before .before .before .before .before .image in
     handed-is _ _ _ (holds-is _ (i .result) true (i .ensures) (eq-eqb _ _ (sym (ap (λ (r : Refusal). r .number) (v .ensures)) ∙ c .before .if2 .taken))) (c .of .ensures) (i .ensures)
 
-no-frame-requires-2 : tie.Need-no-frame-requires-2
-no-frame-requires-2 c κs = search needs
+hear-nothing-requires-2 : tie.Need-hear-nothing-requires-2
+hear-nothing-requires-2 c κs = search needs
 
 returns-3 : tie.Need-returns-3
 returns-3 c =
     let v = c .before .before .before .verdict in
     let i = c .before .before .before .before .before .image in
-    c .no-frame2 .ensures
+    c .hear-nothing2 .ensures
     ∙ none-is _ (holds-is _ (i .result) false (i .ensures) (ne-eqb _ _ (λ e. c .before .if2 .left (ap (λ (r : Refusal). r .number) (v .ensures) ∙ e))))
 
 pub answer-spec : {M : Type 1} → statement M
 answer-spec =
     tie.close
     (tie.spec
-    no-frame-requires
+    hear-nothing-requires
     returns
     image-requires
     slice-aggregate-verdict
     verdict-requires
     of-requires
     returns-2
-    no-frame-requires-2
+    hear-nothing-requires-2
     returns-3)

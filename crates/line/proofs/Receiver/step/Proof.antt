@@ -6,11 +6,11 @@ use Rattle.line.specs.Machine.{answerOf}
 use Rattle.line.proofs.Receiver.step.Statement.{statement}
 use Rattle.line.proofs.Receiver.step.Tie as tie
 
-no-frame-requires : tie.Need-no-frame-requires
-no-frame-requires c κs = search needs
+hear-nothing-requires : tie.Need-hear-nothing-requires
+hear-nothing-requires c κs = search needs
 
 returns : tie.Need-returns
-returns c = rw (lt-ltb _ _ (c .before .if1 .taken)) (c .no-frame .ensures)
+returns c = rw (lt-ltb _ _ (c .before .if1 .taken)) (c .hear-nothing .ensures)
 
 accept-requires : tie.Need-accept-requires
 accept-requires c κs = search needs
@@ -22,4 +22,4 @@ returns-2 : tie.Need-returns-2
 returns-2 c = rw (le-ltb _ _ (c .before .before .if1 .left)) (c .answer .ensures ∙ ap answerOf (c .before .accept .ensures))
 
 pub step-spec : {M : Type 1} → statement M
-step-spec = tie.close (tie.spec no-frame-requires returns accept-requires answer-requires returns-2)
+step-spec = tie.close (tie.spec hear-nothing-requires returns accept-requires answer-requires returns-2)
