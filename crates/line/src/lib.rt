@@ -97,16 +97,17 @@ impl Receiver {
         ensures { λ r. ⌜ r ≡ accepted self level ⌝ }
     {
         let window = self.window;
+        let started = true;
         if self.started {
             let longer = window.push(change(self.last, level));
             return Receiver {
-                started: true,
+                started,
                 last: level,
                 window: longer,
             };
         }
         Receiver {
-            started: true,
+            started,
             last: level,
             window,
         }

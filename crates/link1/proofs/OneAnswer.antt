@@ -10,7 +10,7 @@ use Rattle.line.specs.declared.Receiver.{Receiver}
 use Rattle.line.specs.declared.Heard.{Heard}
 use Rattle.capture.specs.declared.Found.{Found}
 use Rattle.units.specs.declared.Height.{Height}
-use Rattle.message.specs.declared.Kind.{Kind}
+use Rattle.kind.specs.declared.Kind.{Kind}
 use Rattle.track.specs.declared.Tracked.{Tracked}
 use Rattle.pair.specs.declared.Opened.{Opened}
 use Rattle.shift.specs.declared.Shifted.{Shifted}
@@ -22,7 +22,7 @@ use Rattle.line.proofs.Receiver.step.Reads as step
 use Rattle.line.proofs.send.Reads as send
 use Rattle.capture.proofs.search.Reads as search-call
 use Rattle.capture.proofs.Found.refusal.Reads as found-refusal
-use Rattle.message.proofs.label.Reads as label
+use Rattle.kind.proofs.label.Reads as label
 use Rattle.message.proofs.kind_of.Reads as kind-of
 use Rattle.track.proofs.track_text.Reads as track-text
 use Rattle.track.proofs.track_number.Reads as track-number

@@ -25,15 +25,15 @@ pub use line::Window;
 pub use line::send;
 
 // Messages, pairs, and track numbers as text.
+pub use kind::Kind;
+pub use kind::label;
 pub use message::Amplifying;
 pub use message::Iff;
-pub use message::Kind;
 pub use message::Message;
 pub use message::Mode;
 pub use message::Strobe;
 pub use message::Track;
 pub use message::kind_of;
-pub use message::label;
 pub use pair::Opened;
 pub use pair::close;
 pub use pair::open;

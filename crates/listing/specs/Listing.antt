@@ -5,7 +5,7 @@ use lib.ListN.{length, take, drop}
 use lib.Dec.{ltb}
 use Rattle.bits.specs.Tests.{pick}
 use Rattle.refusal.specs.Refusals.{success}
-use Rattle.message.specs.Layouts.{labelOf}
+use Rattle.kind.specs.Layouts.{labelOf}
 use Rattle.message.specs.Messages.{kindOf}
 use Rattle.pair.specs.Opening.{openOf}
 use Rattle.pair.specs.declared.Opened.{Opened}

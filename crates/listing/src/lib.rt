@@ -4,7 +4,7 @@ ghost use mathlib.Core.Path.{_≡_};
 ghost use Prim.Native.Nat.{_+_, _*_, _≤_, _<_};
 ghost use lib.ListN.{length};
 ghost use Rattle.io.specs.Counts.{Counts};
-ghost use Rattle.message.specs.Layouts.{labelOf};
+ghost use Rattle.kind.specs.Layouts.{labelOf};
 ghost use Rattle.message.specs.Messages.{kindOf};
 ghost use Rattle.listing.specs.Text.{decThen, row};
 ghost use Rattle.listing.specs.Wrote.{Wrote};
@@ -59,7 +59,7 @@ fn put_row(out: &mut [u8], at: usize, numbers: &[u64]) -> usize
 fn label(m: Message) -> u64
     ensures { λ r. ⌜ (r ≡ labelOf (kindOf m)) × (r < 256) ⌝ }
 {
-    link1::label(link1::kind_of(m))
+    wide(link1::label(link1::kind_of(m)))
 }
 
 fn wide(x: u8) -> u64

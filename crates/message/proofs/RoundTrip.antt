@@ -14,21 +14,22 @@ use Rattle.bits.specs.Numbers.{fieldOf}
 use Rattle.bits.specs.Layout.{Field, fixed, widthOf, Values, allows, allowed, split, fits, join}
 use Rattle.bits.specs.Rules.{widthsOf, total}
 use Rattle.bits.specs.declared.Packed.{Packed}
-use Rattle.message.specs.Layouts.{labelOf, layoutOf, wholeOf, allKinds, iffLayout}
+use Rattle.kind.specs.Layouts.{labelOf, layoutOf, wholeOf, allKinds, iffLayout}
 use Rattle.message.specs.Messages.{modeOf, presenceOf, codeOf, modeKept, modesKept, iffFrom, iffParts, madeOf, kindOf, partsOf, keptOf}
-use Rattle.message.specs.Codec.{kindFrom, labelledOf, contentKept, messageIn, contentOf, encodedOf}
-use Rattle.message.specs.declared.Kind.{Kind}
-use Rattle.message.specs.declared.Kind.the-variants.{Blank, S0, S3, S4, S4Plus, S5, S6, S8, S8Plus}
+use Rattle.kind.specs.Labels.{kindFrom, labelledOf}
+use Rattle.message.specs.Codec.{contentKept, messageIn, contentOf, encodedOf}
+use Rattle.kind.specs.declared.Kind.{Kind}
+use Rattle.kind.specs.declared.Kind.the-variants.{Blank, S0, S3, S4, S4Plus, S5, S6, S8, S8Plus}
 use Rattle.message.specs.declared.Mode.{Mode}
 use Rattle.message.specs.declared.Mode.the-variants.{Absent, Present}
 use Rattle.message.specs.declared.Iff.{Iff}
 use Rattle.message.specs.declared.Message.{Message}
 use Rattle.message.specs.declared.Message.the-variants as m
-use Rattle.message.specs.declared.Labelled.the-variants.{Known}
+use Rattle.kind.specs.declared.Labelled.the-variants.{Known}
 use Rattle.message.specs.declared.Content.the-variants.{Good, Bad}
 use Rattle.bits.proofs.TestLaws.{zero-one, to-T, from-T, both-true, both-left, both-right, both-intro}
 use Rattle.bits.proofs.LayoutLaws.{join-split, fits-split, split-join, allowed-join, first-join}
-use Rattle.message.proofs.TableLaws.{wide}
+use Rattle.kind.proofs.TableLaws.{wide}
 
 -- ---- modes
 

@@ -4,9 +4,9 @@ use Prim.Native.Nat.{ℕ}
 use lib.Dec.{eqb}
 use Rattle.bits.specs.Tests.{both}
 use Rattle.bits.specs.Layout.{Values}
-use Rattle.message.specs.Layouts.{iffLayout, trackLayout, amplifyingLayout, strobeLayout, layoutOf}
-use Rattle.message.specs.declared.Kind.{Kind}
-use Rattle.message.specs.declared.Kind.the-variants.{Blank, S0, S3, S4, S4Plus, S5, S6, S8, S8Plus}
+use Rattle.kind.specs.Layouts.{iffLayout, trackLayout, amplifyingLayout, strobeLayout, layoutOf}
+use Rattle.kind.specs.declared.Kind.{Kind}
+use Rattle.kind.specs.declared.Kind.the-variants.{Blank, S0, S3, S4, S4Plus, S5, S6, S8, S8Plus}
 use Rattle.message.specs.declared.Mode.{Mode}
 use Rattle.message.specs.declared.Mode.the-variants.{Absent, Present}
 use Rattle.message.specs.declared.Iff.{Iff}

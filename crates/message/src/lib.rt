@@ -1,31 +1,16 @@
 // Messages: one word of 49 bits to one message and back (001, Annex C, Appendices 2 and 3).
 
 ghost use mathlib.Core.Path.{_≡_};
-ghost use Rattle.message.specs.Layouts.{labelOf};
 ghost use Rattle.message.specs.Messages.{kindOf};
-ghost use Rattle.message.specs.Codec.{labelledOf, contentOf, encodedOf};
+ghost use Rattle.message.specs.Codec.{contentOf, encodedOf};
 
-mod layouts;
 mod reading;
 mod writing;
 
 use bits::Packed;
-use refusal::Refusal;
+use kind::Kind;
 use units::AltSteps;
 use units::LinkSteps;
-
-// The kinds of message.
-pub enum Kind {
-    Blank,
-    S0,
-    S3,
-    S4,
-    S4Plus,
-    S5,
-    S6,
-    S8,
-    S8Plus,
-}
 
 // A mode of S.3: absent, or present with its code.
 pub enum Mode {
@@ -92,59 +77,10 @@ pub enum Message {
     S8Plus(Track),
 }
 
-// The kind that a label names.
-pub enum Labelled {
-    Known(Kind),
-    Unknown,
-}
-
 // What a word of a known kind holds.
 pub enum Content {
     Good(Message),
     Bad,
-}
-
-// A kind's layout above the label: the width and the rule of each field, with zeros behind the last.
-pub struct Table {
-    pub count: usize,
-    pub widths: [u32; 13],
-    pub rules: [u64; 13],
-}
-
-// The label of a kind.
-pub fn label(k: Kind) -> u64
-    ensures { λ r. ⌜ r ≡ labelOf k ⌝ }
-{
-    match k {
-        Kind::Blank => 0,
-        Kind::S0 => 46,
-        Kind::S3 => 19,
-        Kind::S4 => 17,
-        Kind::S4Plus => 49,
-        Kind::S5 => 18,
-        Kind::S6 => 20,
-        Kind::S8 => 21,
-        Kind::S8Plus => 53,
-    }
-}
-
-// The kind that the label of a word names.
-pub fn find_kind(word: u64) -> Labelled
-    ensures { λ r. ⌜ r ≡ labelledOf word ⌝ }
-{
-    let label = word % 64;
-    match label {
-        0 => Labelled::Known(Kind::Blank),
-        46 => Labelled::Known(Kind::S0),
-        19 => Labelled::Known(Kind::S3),
-        17 => Labelled::Known(Kind::S4),
-        49 => Labelled::Known(Kind::S4Plus),
-        18 => Labelled::Known(Kind::S5),
-        20 => Labelled::Known(Kind::S6),
-        21 => Labelled::Known(Kind::S8),
-        53 => Labelled::Known(Kind::S8Plus),
-        _ => Labelled::Unknown,
-    }
 }
 
 // The kind of a message.
@@ -168,7 +104,7 @@ pub fn kind_of(m: Message) -> Kind
 pub fn read_content(k: Kind, word: u64) -> Content
     ensures { λ r. ⌜ r ≡ contentOf k word ⌝ }
 {
-    if !layouts::is_laid_out(k, word) {
+    if !kind::is_laid_out(k, word) {
         return Content::Bad;
     }
     if !reading::is_kept(k, word) {
@@ -182,13 +118,13 @@ pub fn encode(m: Message) -> Packed
     ensures { λ r. ⌜ r ≡ encodedOf m ⌝ }
 {
     let k = kind_of(m);
-    let table = layouts::layout(k);
+    let table = kind::layout(k);
     let count = table.count;
     let widths = table.widths;
     let rules = table.rules;
     let numbers = writing::values(m);
     bits::pack(
-        label(k),
+        writing::wide8(kind::label(k)),
         6,
         &widths[0..count],
         &rules[0..count],

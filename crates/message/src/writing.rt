@@ -3,9 +3,10 @@
 ghost use mathlib.Core.Path.{_≡_};
 ghost use Rattle.bits.specs.Layout.{bit, writeAs, signed};
 ghost use Rattle.bits.specs.Rules.{rawOf};
-ghost use Rattle.message.specs.Layouts.{iffLayout, trackLayout, amplifyingLayout, strobeLayout};
+ghost use Rattle.kind.specs.Layouts.{iffLayout, trackLayout, amplifyingLayout, strobeLayout};
+ghost use Rattle.kind.specs.Tables.{padded};
 ghost use Rattle.message.specs.Messages.{presenceOf, codeOf, iffParts, trackParts, amplifyingParts, strobeParts};
-ghost use Rattle.message.specs.Codec.{padded, valuesOf};
+ghost use Rattle.message.specs.Codec.{valuesOf};
 use crate::Amplifying;
 use crate::Iff;
 use crate::Message;
@@ -14,7 +15,7 @@ use crate::Strobe;
 use crate::Track;
 use units::LinkSteps;
 
-fn wide8(n: u8) -> u64
+pub fn wide8(n: u8) -> u64
     ensures { λ r. ⌜ r ≡ n ⌝ }
 {
     n as u64

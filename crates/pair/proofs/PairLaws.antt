@@ -12,11 +12,12 @@ use Rattle.refusal.specs.declared.Refusal.{Refusal}
 use Rattle.frame.specs.Frame.{imageChecks, verdictOf}
 use Rattle.frame.specs.Words.{imageOf}
 use Rattle.message.specs.Messages.{kindOf}
-use Rattle.message.specs.Codec.{labelledOf, isKnown, kindNamed, contentKept, messageIn, contentOf, encodedOf}
-use Rattle.message.specs.declared.Kind.{Kind}
+use Rattle.kind.specs.Labels.{labelledOf, isKnown, kindNamed}
+use Rattle.message.specs.Codec.{contentKept, messageIn, contentOf, encodedOf}
+use Rattle.kind.specs.declared.Kind.{Kind}
 use Rattle.message.specs.declared.Message.{Message}
-use Rattle.message.specs.declared.Labelled.{Labelled}
-use Rattle.message.specs.declared.Labelled.the-variants.{Known}
+use Rattle.kind.specs.declared.Labelled.{Labelled}
+use Rattle.kind.specs.declared.Labelled.the-variants.{Known}
 use Rattle.message.specs.declared.Content.the-variants.{Good, Bad}
 use Rattle.pair.specs.Pairs.{pairOf}
 use Rattle.pair.specs.Opening.{firstWord, secondWord, wordMessage, openRefusal, openOf, wordChecks, openWords, openContents}

@@ -8,10 +8,10 @@ use lib.ListN.{length, getD}
 use Rattle.bits.specs.Tests.{both, every}
 use Rattle.bits.specs.Numbers.{sumOf}
 use Rattle.bits.specs.Layout.{bit}
-use Rattle.message.specs.Layouts.{allKinds}
-use Rattle.message.specs.declared.Kind.{Kind}
-use Rattle.message.specs.declared.Kind.the-variants.{Blank, S0, S3, S4, S4Plus, S5, S6, S8, S8Plus}
-use Rattle.pair.specs.Pairs.{numberOf, isIn, pairOf}
+use Rattle.kind.specs.Layouts.{allKinds, numberOf}
+use Rattle.kind.specs.declared.Kind.{Kind}
+use Rattle.kind.specs.declared.Kind.the-variants.{Blank, S0, S3, S4, S4Plus, S5, S6, S8, S8Plus}
+use Rattle.pair.specs.Pairs.{isIn, pairOf}
 use Rattle.bits.proofs.TestLaws.{every-at}
 
 -- the table, as the code has it

@@ -10,8 +10,9 @@ use Rattle.refusal.specs.Checks.{Check, check, checkAt, firstRefusal, answered}
 use Rattle.refusal.specs.declared.Refusal.{Refusal}
 use Rattle.frame.specs.Frame.{startGood, marksGood, checksGood}
 use Rattle.frame.specs.Words.{wordOf}
-use Rattle.message.specs.Codec.{labelledOf, isKnown, kindNamed, contentKept, messageIn}
-use Rattle.message.specs.declared.Kind.{Kind}
+use Rattle.kind.specs.Labels.{labelledOf, isKnown, kindNamed}
+use Rattle.message.specs.Codec.{contentKept, messageIn}
+use Rattle.kind.specs.declared.Kind.{Kind}
 use Rattle.message.specs.declared.Message.{Message}
 use Rattle.pair.specs.Pairs.{pairOf}
 use Rattle.pair.specs.declared.Opened.{Opened}

@@ -2,23 +2,11 @@
 -- 01, 'Which pairs may share a frame').
 use mathlib.Core.Bool.{Bool, true, false}
 use mathlib.Core.List.{List, [], _∷_}
-use Prim.Native.Nat.{ℕ}
 use lib.Dec.{eqb}
 use Rattle.bits.specs.Tests.{pick}
-use Rattle.message.specs.declared.Kind.{Kind}
-use Rattle.message.specs.declared.Kind.the-variants.{Blank, S0, S3, S4, S4Plus, S5, S6, S8, S8Plus}
-
--- the row or column of a kind
-abbrev pub numberOf : Kind → ℕ
-numberOf Blank = 0
-numberOf S0 = 1
-numberOf S3 = 2
-numberOf S4 = 3
-numberOf S4Plus = 4
-numberOf S5 = 5
-numberOf S6 = 6
-numberOf S8 = 7
-numberOf S8Plus = 8
+use Rattle.kind.specs.Layouts.{numberOf}
+use Rattle.kind.specs.declared.Kind.{Kind}
+use Rattle.kind.specs.declared.Kind.the-variants.{Blank, S0, S3, S4, S4Plus, S5, S6, S8, S8Plus}
 
 -- the kinds that may follow a kind
 abbrev pub after : Kind → List Kind

@@ -1,13 +1,12 @@
 // Pairs: which messages may share a frame; opening an image and closing a pair.
 
 ghost use mathlib.Core.Path.{_≡_};
-ghost use Prim.Native.Nat.{_<_};
-ghost use Rattle.pair.specs.Pairs.{numberOf, pairOf};
+ghost use Rattle.pair.specs.Pairs.{pairOf};
 ghost use Rattle.pair.specs.Opening.{refusalOf, openContents, openWords, openOf};
 ghost use Rattle.pair.specs.Closing.{Closed};
+use kind::Kind;
+use kind::Labelled;
 use message::Content;
-use message::Kind;
-use message::Labelled;
 use message::Message;
 use refusal::Refusal;
 
@@ -28,28 +27,11 @@ const PAIRS: [[bool; 9]; 9] = [
     [NO, NO, YES, NO, NO, YES, NO, NO, NO], // S.8+
 ];
 
-// The row or column of a kind.
-fn number(k: Kind) -> usize
-    ensures { λ r. ⌜ (r ≡ numberOf k) × (r < 9) ⌝ }
-{
-    match k {
-        Kind::Blank => 0,
-        Kind::S0 => 1,
-        Kind::S3 => 2,
-        Kind::S4 => 3,
-        Kind::S4Plus => 4,
-        Kind::S5 => 5,
-        Kind::S6 => 6,
-        Kind::S8 => 7,
-        Kind::S8Plus => 8,
-    }
-}
-
 // Whether the second kind may follow the first in a frame.
 fn is_pair(first: Kind, second: Kind) -> bool
     ensures { λ r. ⌜ r ≡ pairOf first second ⌝ }
 {
-    PAIRS[number(first)][number(second)]
+    PAIRS[kind::number(first)][kind::number(second)]
 }
 
 // What an image opens as: two messages, or the refusal.
@@ -87,10 +69,10 @@ fn open_contents(k: Kind, l: Kind, v: u64, w: u64) -> Opened
 fn open_words(v: u64, w: u64) -> Opened
     ensures { λ r. ⌜ r ≡ openWords v w ⌝ }
 {
-    let Labelled::Known(k) = message::find_kind(v) else {
+    let Labelled::Known(k) = kind::find_kind(v) else {
         return Opened::Refused(Refusal::at(refusal::UNKNOWN_LABEL, 1));
     };
-    let Labelled::Known(l) = message::find_kind(w) else {
+    let Labelled::Known(l) = kind::find_kind(w) else {
         return Opened::Refused(Refusal::at(refusal::UNKNOWN_LABEL, 2));
     };
     if !is_pair(k, l) {

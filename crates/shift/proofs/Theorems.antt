@@ -19,9 +19,9 @@ use Rattle.units.specs.Offsets.{areOffsets, sumZ}
 use Rattle.units.specs.Steps.{isStep, movedTo}
 use Rattle.units.specs.Nearest.{Nearest, OddMultiple}
 use Rattle.message.specs.Codec.{encodedOf}
-use Rattle.message.specs.Layouts.{labelOf, trackLayout, wholeOf}
+use Rattle.kind.specs.Layouts.{labelOf, trackLayout, wholeOf}
 use Rattle.message.specs.Messages.{trackParts, kindOf, partsOf}
-use Rattle.message.specs.declared.Kind.the-variants as k
+use Rattle.kind.specs.declared.Kind.the-variants as k
 use Rattle.message.specs.declared.Track.{Track}
 use Rattle.message.specs.declared.Message.{Message}
 use Rattle.message.specs.declared.Message.the-variants as m

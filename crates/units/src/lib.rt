@@ -93,7 +93,8 @@ pub fn move_step(old: LinkSteps, by: Feet) -> Moved
 {
     let steps = old.0 as i64;
     let feet = by.0 as i64;
-    let n = round(750 * steps + feet);
+    let exact = 750 * steps + feet;
+    let n = round(exact);
     if n < -4096 {
         return Moved::OutOfRange;
     }

@@ -7,13 +7,14 @@ use borrow.Author.Needs.{needs}
 use borrow.Author.Tests.{lt-ltb, eq-eqb}
 use Rattle.bits.specs.Layout.{fits, join}
 use Rattle.bits.specs.Tests.{pick}
-use Rattle.message.specs.Codec.{encodedOf, tableOf}
-use Rattle.message.specs.Layouts.{labelOf, layoutOf, wholeOf}
+use Rattle.kind.specs.Tables.{tableOf}
+use Rattle.message.specs.Codec.{encodedOf}
+use Rattle.kind.specs.Layouts.{labelOf, layoutOf, wholeOf}
 use Rattle.message.specs.Messages.{kindOf, partsOf}
-use Rattle.message.specs.declared.Kind.{Kind}
+use Rattle.kind.specs.declared.Kind.{Kind}
 use Rattle.message.specs.declared.Message.{Message}
 use Rattle.bits.proofs.RuleLaws.{packed-layout}
-use Rattle.message.proofs.TableLaws.{widths-are, widths-end, rules-are, rules-end, values-are, values-end, length-widths, length-rules, length-raw, wide, few, label-lt}
+use Rattle.kind.proofs.TableLaws.{widths-are, widths-end, rules-are, rules-end, values-are, values-end, length-widths, length-rules, length-raw, wide, few, label-lt}
 use Rattle.message.proofs.encode.Statement.{statement}
 use Rattle.message.proofs.encode.Tie as tie
 
@@ -50,6 +51,9 @@ values-requires c κs = search needs
 label-requires : tie.Need-label-requires
 label-requires c κs = search needs
 
+wide8-requires : tie.Need-wide8-requires
+wide8-requires c κs = search needs
+
 sub-pack : tie.Need-sub-pack
 sub-pack c = search needs
 
@@ -57,7 +61,7 @@ part-pack-start : tie.Need-part-pack-start
 part-pack-start c = search needs
 
 part-pack-end : tie.Need-part-pack-end
-part-pack-end c = let l = c .before .before .before .before .before in widths-end (l .layout .result) (kindOf (message-of l)) (table-is l)
+part-pack-end c = let l = c .before .before .before .before .before .before in widths-end (l .layout .result) (kindOf (message-of l)) (table-is l)
 
 sub-pack-2 : tie.Need-sub-pack-2
 sub-pack-2 c = search needs
@@ -66,7 +70,7 @@ part-pack-start-2 : tie.Need-part-pack-start-2
 part-pack-start-2 c = search needs
 
 part-pack-end-2 : tie.Need-part-pack-end-2
-part-pack-end-2 c = let l = c .before .before .before .before .before .before .before in rules-end (l .layout .result) (kindOf (message-of l)) (table-is l)
+part-pack-end-2 c = let l = c .before .before .before .before .before .before .before .before in rules-end (l .layout .result) (kindOf (message-of l)) (table-is l)
 
 sub-pack-3 : tie.Need-sub-pack-3
 sub-pack-3 c = search needs
@@ -76,29 +80,31 @@ part-pack-start-3 c = search needs
 
 part-pack-end-3 : tie.Need-part-pack-end-3
 part-pack-end-3 c =
-    let v = c .before .before .before .before .before .before in
+    let v = c .before .before .before .before .before .before .before in
     let l = v .before .before .before in
-    values-end (l .layout .result) (message-of l) (table-is l) _ (v .values .ensures)
+    values-end (l .layout .result) (kindOf (message-of l)) (table-is l) (partsOf (message-of l)) _ (v .values .ensures)
 
 pack-requires : tie.Need-pack-requires
 pack-requires c κs =
-    let b = c .before .before .before .before .before .before in
+    let w = c .before .before .before .before .before .before in
+    let b = w .before in
     let v = b .before in
     let l = v .before .before .before in
     let k = kindOf (message-of l) in
     let ws = layoutOf k in
-    rw (b .label .ensures, widths-are (l .layout .result) k (table-is l), rules-are (l .layout .result) k (table-is l), values-are (l .layout .result) (message-of l) (table-is l) _ (v .values .ensures), wide k)
+    rw (w .wide8 .ensures, b .label .ensures, widths-are (l .layout .result) k (table-is l), rules-are (l .layout .result) k (table-is l), values-are (l .layout .result) k (table-is l) (partsOf (message-of l)) _ (v .values .ensures), wide k)
     (label-lt (l .before .kind-of .result), search needs, length-widths ws ∙ sym (length-rules ws), length-widths ws ∙ sym (length-raw ws (partsOf (message-of l))))
 
 returns : tie.Need-returns
 returns c =
-    let b = c .before .before .before .before .before .before .before in
+    let w = c .before .before .before .before .before .before .before in
+    let b = w .before in
     let v = b .before in
     let l = v .before .before .before in
     let m = message-of l in
     let k = kindOf m in
     c .pack .ensures
-    ∙ rw (b .label .ensures, l .before .kind-of .ensures, widths-are (l .layout .result) k (table-is l), rules-are (l .layout .result) k (table-is l), values-are (l .layout .result) m (table-is l) _ (v .values .ensures))
+    ∙ rw (w .wide8 .ensures, b .label .ensures, l .before .kind-of .ensures, widths-are (l .layout .result) k (table-is l), rules-are (l .layout .result) k (table-is l), values-are (l .layout .result) k (table-is l) (partsOf m) _ (v .values .ensures))
     (packed-layout (labelOf k) 6 (layoutOf k) (partsOf m) (few k) ∙ with-label m)
 
 pub encode-spec : {M : Type 1} → statement M
@@ -109,6 +115,7 @@ encode-spec =
     layout-requires
     values-requires
     label-requires
+    wide8-requires
     sub-pack
     part-pack-start
     part-pack-end

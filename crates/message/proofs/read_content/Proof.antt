@@ -6,10 +6,10 @@ use borrow.Author.Needs.{needs}
 use borrow.Author.Tests.{not-true, not-false}
 use Rattle.bits.specs.Layout.{allowed, split}
 use Rattle.message.specs.Codec.{contentOf, messageIn}
-use Rattle.message.specs.Layouts.{layoutOf}
+use Rattle.kind.specs.Layouts.{layoutOf}
 use Rattle.message.specs.Messages.{keptOf}
 use Rattle.message.specs.declared.Content.the-variants.{Good, Bad}
-use Rattle.message.specs.declared.Kind.{Kind}
+use Rattle.kind.specs.declared.Kind.{Kind}
 use Rattle.message.proofs.read_content.Statement.{statement}
 use Rattle.message.proofs.read_content.Tie as tie
 

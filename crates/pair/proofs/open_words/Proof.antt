@@ -2,8 +2,8 @@
 use mathlib.Core.Path.{_≡_, refl, sym, ap, _∙_}
 use borrow.Author.Needs.{needs}
 use borrow.Author.Tests.{not-true, not-false}
-use Rattle.message.specs.Codec.{labelledOf}
-use Rattle.message.specs.declared.Labelled.the-variants.{Known}
+use Rattle.kind.specs.Labels.{labelledOf}
+use Rattle.kind.specs.declared.Labelled.the-variants.{Known}
 use Rattle.pair.specs.declared.Opened.the-variants.{Refused}
 use Rattle.pair.proofs.PairLaws.{words-by, no-pair, in-table}
 use Rattle.pair.proofs.open_words.Statement.{statement}

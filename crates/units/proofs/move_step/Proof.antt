@@ -47,14 +47,14 @@ cast-feet c =
     let b = feet c in
     simp toZ-ofZ (feet-fit _ b)
 
-mul-round : tie.Need-mul-round
-mul-round c =
+mul-exact : tie.Need-mul-exact
+mul-exact c =
     let o = old c in
     let p = steps-fit _ o in
     simp toZ-ofZ (times-fit _ o)
 
-add-round : tie.Need-add-round
-add-round c =
+add-exact : tie.Need-add-exact
+add-exact c =
     let o = old c in
     let p = steps-fit _ o in
     let q = times-fit _ o in
@@ -115,8 +115,8 @@ move-step-spec =
     (tie.spec
     cast-steps
     cast-feet
-    mul-round
-    add-round
+    mul-exact
+    add-exact
     round-requires
     returns
     returns-2

@@ -2,8 +2,8 @@
 
 ghost use mathlib.Core.Path.{_≡_};
 ghost use Rattle.bits.specs.Layout.{allowed};
-ghost use Rattle.message.specs.Layouts.{layoutOf};
-ghost use Rattle.message.specs.Codec.{tableOf};
+ghost use Rattle.kind.specs.Layouts.{layoutOf};
+ghost use Rattle.kind.specs.Tables.{tableOf};
 use crate::Kind;
 use crate::Table;
 
@@ -65,21 +65,24 @@ const STROBE: Table = Table {
     rules: [0, 0, 0, 0, 0, 0, 0, 0, 0b1110_0000_0000_0000, 0, 0, 0, 0],
 };
 
+// The layouts in the order of the kinds' numbers.
+const LAYOUTS: [Table; 9] = [
+    BLANK,
+    TEST,
+    IFF,
+    TRACK,
+    TRACK,
+    AMPLIFYING,
+    STROBE,
+    TRACK,
+    TRACK,
+];
+
 // The layout of a kind.
 pub fn layout(k: Kind) -> Table
     ensures { λ r. ⌜ r ≡ tableOf (layoutOf k) ⌝ }
 {
-    match k {
-        Kind::Blank => BLANK,
-        Kind::S0 => TEST,
-        Kind::S3 => IFF,
-        Kind::S4 => TRACK,
-        Kind::S4Plus => TRACK,
-        Kind::S5 => AMPLIFYING,
-        Kind::S6 => STROBE,
-        Kind::S8 => TRACK,
-        Kind::S8Plus => TRACK,
-    }
+    LAYOUTS[crate::number(k)]
 }
 
 // Whether a word above its label is as the kind's layout has it.

@@ -1,14 +1,14 @@
--- `message::is_laid_out` meets its contract. Assumes nothing.
+-- `kind::is_laid_out` meets its contract. Assumes nothing.
 use mathlib.Core.List.{List}
 use mathlib.Core.Path.{sym, ap₂, _∙_}
 use Prim.Native.Nat.{ℕ}
 use borrow.Author.Needs.{needs}
 use Rattle.bits.specs.Rules.{ruled}
-use Rattle.message.specs.Layouts.{layoutOf}
+use Rattle.kind.specs.Layouts.{layoutOf}
 use Rattle.bits.proofs.RuleLaws.{ruled-layout}
-use Rattle.message.proofs.TableLaws.{widths-are, widths-end, rules-are, rules-end, length-widths, length-rules, wide, few}
-use Rattle.message.proofs.layouts.is_laid_out.Statement.{statement}
-use Rattle.message.proofs.layouts.is_laid_out.Tie as tie
+use Rattle.kind.proofs.TableLaws.{widths-are, widths-end, rules-are, rules-end, length-widths, length-rules, wide, few}
+use Rattle.kind.proofs.layouts.is_laid_out.Statement.{statement}
+use Rattle.kind.proofs.layouts.is_laid_out.Tie as tie
 
 layout-requires : tie.Need-layout-requires
 layout-requires c κs = search needs

@@ -1,11 +1,27 @@
--- The nine kinds and their layouts (001, Annex C, Appendices 2 and 3; 01, 'Messages'). A layout begins above the label, at bit 7.
+-- The kinds, their labels and their layouts (001, Annex A, Appendix 5, and Annex C, Appendices 2 and 3; 01, 'Messages'). A layout begins
+-- above the label, at bit 7.
 use mathlib.Core.List.{List, [], _∷_}
 use Prim.Native.Nat.{ℕ}
 use Rattle.bits.specs.Layout.{Field, fixed, number, code, flag, signed}
-use Rattle.message.specs.declared.Kind.{Kind}
-use Rattle.message.specs.declared.Kind.the-variants.{Blank, S0, S3, S4, S4Plus, S5, S6, S8, S8Plus}
+use Rattle.kind.specs.declared.Kind.{Kind}
+use Rattle.kind.specs.declared.Kind.the-variants.{Blank, S0, S3, S4, S4Plus, S5, S6, S8, S8Plus}
 
--- bits 1 to 6
+-- the kinds in the order of their numbers
+abbrev pub allKinds : List Kind
+allKinds = Blank ∷ S0 ∷ S3 ∷ S4 ∷ S4Plus ∷ S5 ∷ S6 ∷ S8 ∷ S8Plus ∷ []
+
+abbrev pub numberOf : Kind → ℕ
+numberOf Blank = 0
+numberOf S0 = 1
+numberOf S3 = 2
+numberOf S4 = 3
+numberOf S4Plus = 4
+numberOf S5 = 5
+numberOf S6 = 6
+numberOf S8 = 7
+numberOf S8Plus = 8
+
+-- bits 1 to 6 (001, Annex A, Appendix 5, Table A5-1)
 abbrev pub labelOf : Kind → ℕ
 labelOf Blank = 0
 labelOf S0 = 46
@@ -70,6 +86,3 @@ layoutOf S8Plus = trackLayout
 -- all 49 bits: the label and the fields above it
 abbrev pub wholeOf : Kind → List Field
 wholeOf k = fixed 6 (labelOf k) ∷ layoutOf k
-
-abbrev pub allKinds : List Kind
-allKinds = Blank ∷ S0 ∷ S3 ∷ S4 ∷ S4Plus ∷ S5 ∷ S6 ∷ S8 ∷ S8Plus ∷ []

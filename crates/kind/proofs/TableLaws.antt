@@ -1,23 +1,21 @@
--- The kinds' tables are lawful: as long as they say, 43 bits wide, with few codes. Assumes nothing.
+-- The kinds' tables are lawful: as long as they say, 43 bits wide, with few codes; a row by its number. Assumes nothing.
 use mathlib.Core.Path.{_≡_, refl, ap, ap₂, _∙_}
 use mathlib.Core.Bool.{Bool, true}
-use mathlib.Core.List.{List, [], _∷_}
+use mathlib.Core.List.{List, [], _∷_, map}
 use Prim.Native.Nat.{ℕ, zero, suc, _-_, _≤_, _<_}
 use native.Mathlib.Omega.{arith}
 use native.Mathlib.Nat.{le-of-suc-le-suc, not-suc-le-zero}
 use borrow.Author.Tests.{leb-true, ltb-true, eqb-true}
 use lib.Dec.{T, leb, ltb, eqb}
-use lib.ListN.{length, take}
+use lib.ListN.{length, take, getD}
 use Rattle.bits.specs.Tests.{both}
 use Rattle.bits.specs.Layout.{Field, Values}
 use Rattle.bits.specs.Rules.{widthsOf, rulesOf, rawOf, total}
-use Rattle.message.specs.Layouts.{labelOf, layoutOf}
-use Rattle.message.specs.Messages.{kindOf, partsOf}
-use Rattle.message.specs.Codec.{padded, tableOf, valuesOf}
-use Rattle.message.specs.declared.Kind.{Kind}
-use Rattle.message.specs.declared.Table.{Table}
-use Rattle.message.specs.declared.Message.{Message}
-use Rattle.message.specs.declared.Kind.the-variants.{Blank, S0, S3, S4, S4Plus, S5, S6, S8, S8Plus}
+use Rattle.kind.specs.Layouts.{allKinds, numberOf, labelOf, layoutOf}
+use Rattle.kind.specs.Tables.{padded, tableOf}
+use Rattle.kind.specs.declared.Kind.{Kind}
+use Rattle.kind.specs.declared.Table.{Table}
+use Rattle.kind.specs.declared.Kind.the-variants.{Blank, S0, S3, S4, S4Plus, S5, S6, S8, S8Plus}
 use Rattle.bits.proofs.TestLaws.{both-true, to-T}
 use Rattle.bits.proofs.RuleLaws.{allFew}
 
@@ -105,11 +103,23 @@ module _ (t : Table) (k : Kind) (e : t ≡ tableOf (layoutOf k)) where
   pub rules-end : t .count ≤ length (t .rules)
   rules-end = part-ends k (t .count) (t .rules) (rulesOf (layoutOf k)) counted (ap (λ (x : Table). x .rules) e) (length-rules (layoutOf k))
 
-module _ (t : Table) (m : Message) (e : t ≡ tableOf (layoutOf (kindOf m))) (l : List ℕ) (full : l ≡ valuesOf m) where
-  pub values-are : take (t .count - 0) l ≡ rawOf (layoutOf (kindOf m)) (partsOf m)
-  values-are =
-      part-is (kindOf m) (t .count) l (rawOf (layoutOf (kindOf m)) (partsOf m)) (counted t (kindOf m) e) full (length-raw (layoutOf (kindOf m)) (partsOf m))
+-- the values of a kind's fields
+module _ (t : Table) (k : Kind) (e : t ≡ tableOf (layoutOf k)) (vs : Values (layoutOf k)) (l : List ℕ) (full : l ≡ padded 13 (rawOf (layoutOf k) vs)) where
+  pub values-are : take (t .count - 0) l ≡ rawOf (layoutOf k) vs
+  values-are = part-is k (t .count) l (rawOf (layoutOf k) vs) (counted t k e) full (length-raw (layoutOf k) vs)
 
   pub values-end : t .count ≤ length l
-  values-end =
-      part-ends (kindOf m) (t .count) l (rawOf (layoutOf (kindOf m)) (partsOf m)) (counted t (kindOf m) e) full (length-raw (layoutOf (kindOf m)) (partsOf m))
+  values-end = part-ends k (t .count) l (rawOf (layoutOf k) vs) (counted t k e) full (length-raw (layoutOf k) vs)
+
+-- ---- a table with a row for each kind, by the kind's number
+
+pub row-at : {A : Type 0} (f : Kind → A) (k : Kind) (d : A) → getD (map f allKinds) (numberOf k) d ≡ f k
+row-at f Blank d = refl
+row-at f S0 d = refl
+row-at f S3 d = refl
+row-at f S4 d = refl
+row-at f S4Plus d = refl
+row-at f S5 d = refl
+row-at f S6 d = refl
+row-at f S8 d = refl
+row-at f S8Plus d = refl
