@@ -57,6 +57,6 @@ abbrev pub refusalOf : Found → Refusal
 refusalOf (At p) = numbered success
 refusalOf (Refused r) = r
 
-abbrev pub positionOf : Found → ℕ
-positionOf (At p) = p
-positionOf (Refused r) = 0
+abbrev pub positionFound : Found → ℕ
+positionFound (At p) = p
+positionFound (Refused r) = 0

@@ -1,4 +1,4 @@
--- DEMAND 3: what a fresh receiver hands over, said of the decoded bits alone (01, 'From levels to a frame').
+-- DEMAND 3: what a fresh receiver answers, said of the decoded bits alone but for the state (01, 'From levels to a frame').
 use mathlib.Core.Bool.{Bool}
 use mathlib.Core.List.{List, [], _∷_, _++_}
 use Prim.Native.Nat.{ℕ, _+_, _-_}

@@ -70,7 +70,7 @@ unfolding texts.textRefusal texts.textAfter
 track-text-refuses κs a e r p = buffer-left (texts.textChecks (a .0) (now (a .1 .0))) refl (texts.textOf (a .0)) _ (p .0) (p .1)
 
 -- ---- calls that answer a value or a refusal: the refusal of the answer is one of the table, and the case `Refused` is never a success.
--- The value is then zero by its definition: `positionOf`, `numberIn`, `altitudeIn`
+-- The value is then zero by its definition: `positionFound`, `numberIn`, `altitudeIn`
 
 pub open-refuses : (κs : Lfts 1) (a : _) (e : _) (r : Opened) → open-call.Post κs a r e
     → (ofTable (opening.refusalOf r) ≡ true) × ((x : Refusal) → r ≡ O.Refused x → Refuses x)
@@ -95,7 +95,7 @@ unfolding heights.heightOf heights.heightRefusal
 altitude-refuses κs a e r p = refusal-told (heights.heightChecks (a .0 .0)) refl H.Refused heights.refusalOf (H.At (record { 0 = heights.altitudeOf (a .0 .0) })) (λ x. refl) refl (λ x z. zero-one (cc)) p
 
 -- the value of a refusal is zero
-pub no-position : (x : Refusal) → searching.positionOf (F.Refused x) ≡ 0
+pub no-position : (x : Refusal) → searching.positionFound (F.Refused x) ≡ 0
 no-position x = refl
 
 pub no-number : (x : Refusal) → texts.numberIn (T.Refused x) ≡ 0

@@ -16,45 +16,45 @@ use Rattle.units.specs.declared.LinkSteps.{LinkSteps}
 use Rattle.message.specs.Codec.{encodedOf}
 use Rattle.message.specs.declared.Message.{Message}
 use Rattle.shift.specs.Positions.{positionOf, isSomewhere, xOf, yOf, placedAt}
-use Rattle.shift.specs.Shift.{shiftRefusal, shiftedOf, listChecks, sumsOf, stepChecks, movesTo, movesOf, leftAs, finishedOf}
+use Rattle.shift.specs.Shift.{shiftRefusal, shiftedOf, listChecks, sumsOf, stepChecks, newPosition, movedPosition, leftAs, finishedOf}
 use Rattle.shift.specs.declared.Position.{Position}
 use Rattle.shift.specs.declared.Position.the-variants.{At, Nowhere}
 use Rattle.shift.specs.declared.Shifted.{Shifted}
 use Rattle.shift.specs.declared.Sums.the-variants as U
-use Rattle.shift.specs.declared.Moves.the-variants as M
+use Rattle.shift.specs.declared.NewPosition.the-variants as N
 use Rattle.bits.proofs.TestLaws.{zero-one, clash}
 use Rattle.refusal.proofs.CheckLaws.{first-more, given, left, answer-refused, answer-is, success-whole, Refuses}
 
 -- ---- the lists, and then the steps
 
 module _ (x y : ℤ) (xs ys : List ℤ) where
-  moves-by : firstRefusal (listChecks xs ys ++ stepChecks (movedTo x xs) (movedTo y ys))
+  moved-by : firstRefusal (listChecks xs ys ++ stepChecks (movedTo x xs) (movedTo y ys))
       ≡ onSuccess (firstRefusal (listChecks xs ys)) (firstRefusal (stepChecks (movedTo x xs) (movedTo y ys))) (firstRefusal (listChecks xs ys))
-  moves-by = first-more (listChecks xs ys) (stepChecks (movedTo x xs) (movedTo y ys)) refl
+  moved-by = first-more (listChecks xs ys) (stepChecks (movedTo x xs) (movedTo y ys)) refl
 
   -- lists that are refused
-  pub lists-refused : (r : Refusal) → sumsOf xs ys ≡ U.Refused r → M.Refused r ≡ movesOf x y xs ys
-  unfolding sumsOf movesOf
+  pub lists-refused : (r : Refusal) → sumsOf xs ys ≡ U.Refused r → N.Refused r ≡ movedPosition x y xs ys
+  unfolding sumsOf movedPosition
   lists-refused r e = go (eqb (firstRefusal (listChecks xs ys) .number) success) refl e
     where
       go : (t : Bool) → eqb (firstRefusal (listChecks xs ys) .number) success ≡ t
-          → pick t (U.Of (record { 0 = sumZ xs }) (record { 0 = sumZ ys })) (U.Refused (firstRefusal (listChecks xs ys))) ≡ U.Refused r → M.Refused r ≡ movesOf x y xs ys
+          → pick t (U.Of (record { 0 = sumZ xs }) (record { 0 = sumZ ys })) (U.Refused (firstRefusal (listChecks xs ys))) ≡ U.Refused r → N.Refused r ≡ movedPosition x y xs ys
       go true f q = zero-one (cc)
       go false f q =
           let is : firstRefusal (listChecks xs ys) ≡ r = cc in
           let wrong : Refuses (firstRefusal (listChecks xs ys)) = λ z. clash (eq-eqb _ _ z) f in
-          sym (answer-refused M.Refused _ (moves-by ∙ left (firstRefusal (listChecks xs ys)) _ _ wrong ∙ is) (λ z. wrong (ap (λ (s : Refusal). s .number) is ∙ z)))
+          sym (answer-refused N.Refused _ (moved-by ∙ left (firstRefusal (listChecks xs ys)) _ _ wrong ∙ is) (λ z. wrong (ap (λ (s : Refusal). s .number) is ∙ z)))
 
   -- and lists that are added up
-  pub lists-added : (dx dy : Feet) → sumsOf xs ys ≡ U.Of dx dy → movesTo (nearestTo x (dx .0)) (nearestTo y (dy .0)) ≡ movesOf x y xs ys
-  unfolding sumsOf movesOf movesTo
+  pub lists-added : (dx dy : Feet) → sumsOf xs ys ≡ U.Of dx dy → newPosition (nearestTo x (dx .0)) (nearestTo y (dy .0)) ≡ movedPosition x y xs ys
+  unfolding sumsOf movedPosition newPosition
   lists-added dx dy e =
       let q = answer-is U.Refused (U.Of (record { 0 = sumZ xs }) (record { 0 = sumZ ys })) (firstRefusal (listChecks xs ys)) (U.Of dx dy) (λ r z. zero-one (cc)) e in
       let v = q .1 in
       let a : sumZ xs ≡ dx .0 = cc in
       let b : sumZ ys ≡ dy .0 = cc in
-      let to : ℤ → ℤ → Refusal → _ = λ u v r. answered M.Refused r (M.To (record { 0 = u }) (record { 0 = v })) in
-      rw (← a, ← b) (sym (ap (to (movedTo x xs) (movedTo y ys)) (moves-by ∙ given (firstRefusal (listChecks xs ys)) _ _ (q .0))))
+      let at : ℤ → ℤ → Refusal → _ = λ u v r. answered N.Refused r (N.At (record { 0 = u }) (record { 0 = v })) in
+      rw (← a, ← b) (sym (ap (at (movedTo x xs) (movedTo y ys)) (moved-by ∙ given (firstRefusal (listChecks xs ys)) _ _ (q .0))))
 
 -- ---- a message by its position and the test of its content
 
@@ -81,13 +81,13 @@ module _ (m : Message) (xs ys : List ℤ) where
     abbrev steps : Refusal
     steps = firstRefusal (listChecks xs ys ++ stepChecks (movedTo (x .0) xs) (movedTo (y .0) ys))
 
-    pub shifted-moved : encodedOf m .fits ≡ true → shiftedOf m xs ys ≡ finishedOf m (movesOf (x .0) (y .0) xs ys)
-    unfolding movesOf
+    pub shifted-moved : encodedOf m .fits ≡ true → shiftedOf m xs ys ≡ finishedOf m (movedPosition (x .0) (y .0) xs ys)
+    unfolding movedPosition
     shifted-moved f = by e f ∙ go (eqb (steps .number) success) refl
       where
         go : (t : Bool) → eqb (steps .number) success ≡ t
             → _≡_ {A = Shifted} (record { refusal = steps; message = pick t (placedAt m (movedTo (x .0) xs) (movedTo (y .0) ys)) m })
-            (finishedOf m (pick t (M.To (record { 0 = movedTo (x .0) xs }) (record { 0 = movedTo (y .0) ys })) (M.Refused steps)))
+            (finishedOf m (pick t (N.At (record { 0 = movedTo (x .0) xs }) (record { 0 = movedTo (y .0) ys })) (N.Refused steps)))
         go false q = refl
         go true q =
             ap (λ (r : Refusal). leftAs (placedAt m (movedTo (x .0) xs) (movedTo (y .0) ys)) r)

@@ -27,6 +27,7 @@ use Rattle.message.specs.declared.Message.{Message}
 use Rattle.message.specs.declared.Message.the-variants as m
 use Rattle.shift.specs.Positions.{positionOf, isSomewhere, xOf, yOf, placedAt}
 use Rattle.shift.specs.Shift.{newX, newY, shiftChecks, shiftRefusal, shiftedOf}
+use Rattle.shift.specs.declared.Position.the-variants.{At}
 use Rattle.shift.specs.declared.Shifted.{Shifted}
 use Rattle.bits.proofs.TestLaws.{clash, both-true}
 use Rattle.refusal.proofs.CheckLaws.{Passed, success-passed, passed-success, given}
@@ -52,27 +53,16 @@ module _ (m : Message) (xs ys : List ℤ) (e : shiftedOf m xs ys .refusal ≡ nu
   placed = given (shiftRefusal m xs ys) _ m none-refused
 
 -- a message that is placed has that position, and can be placed again
-placed-x : (m : Message) (x y : ℤ) → isSomewhere (positionOf m) ≡ true → xOf (positionOf (placedAt m x y)) ≡ x
-placed-x m.Blank x y h = absurd (clash h refl)
-placed-x m.S0 x y h = absurd (clash h refl)
-placed-x (m.S3 i) x y h = absurd (clash h refl)
-placed-x (m.S4 t) x y h = refl
-placed-x (m.S4Plus t) x y h = refl
-placed-x (m.S5 a) x y h = absurd (clash h refl)
-placed-x (m.S6 s) x y h = absurd (clash h refl)
-placed-x (m.S8 t) x y h = refl
-placed-x (m.S8Plus t) x y h = refl
-
-placed-y : (m : Message) (x y : ℤ) → isSomewhere (positionOf m) ≡ true → yOf (positionOf (placedAt m x y)) ≡ y
-placed-y m.Blank x y h = absurd (clash h refl)
-placed-y m.S0 x y h = absurd (clash h refl)
-placed-y (m.S3 i) x y h = absurd (clash h refl)
-placed-y (m.S4 t) x y h = refl
-placed-y (m.S4Plus t) x y h = refl
-placed-y (m.S5 a) x y h = absurd (clash h refl)
-placed-y (m.S6 s) x y h = absurd (clash h refl)
-placed-y (m.S8 t) x y h = refl
-placed-y (m.S8Plus t) x y h = refl
+placed-there : (m : Message) (x y : ℤ) → isSomewhere (positionOf m) ≡ true → positionOf (placedAt m x y) ≡ At (record { 0 = x }) (record { 0 = y })
+placed-there m.Blank x y h = absurd (clash h refl)
+placed-there m.S0 x y h = absurd (clash h refl)
+placed-there (m.S3 i) x y h = absurd (clash h refl)
+placed-there (m.S4 t) x y h = refl
+placed-there (m.S4Plus t) x y h = refl
+placed-there (m.S5 a) x y h = absurd (clash h refl)
+placed-there (m.S6 s) x y h = absurd (clash h refl)
+placed-there (m.S8 t) x y h = refl
+placed-there (m.S8Plus t) x y h = refl
 
 placed-again : (m : Message) (x y u v : ℤ) → placedAt (placedAt m x y) u v ≡ placedAt m u v
 placed-again m.Blank x y u v = refl
@@ -108,8 +98,8 @@ pub shift-nearest : (m : Message) (xs ys : List ℤ) → shiftedOf m xs ys .refu
 shift-nearest m xs ys e =
     let there = passed m xs ys e .0 in
     let p = placed m xs ys e in
-    let a = placed-x m (newX m xs) (newY m ys) there in
-    let b = placed-y m (newX m xs) (newY m ys) there in
+    let a = ap xOf (placed-there m (newX m xs) (newY m ys) there) in
+    let b = ap yOf (placed-there m (newX m xs) (newY m ys) there) in
     rw p (record {
       else = ap₂ (placedAt m) (sym a) (sym b);
       x = rw a (near-nearest (pos 750 *ℤ xOf (positionOf m) +ℤ sumZ xs));
@@ -192,7 +182,7 @@ module _ (m : Message) (xs ys : List ℤ) (ox : OddMultiple (sumZ xs) → ⊥) (
   -- two shifts that are not refused, there and back, give the message back
   pub shift-back : shiftedOf m xs ys .refusal ≡ numbered success → back there .refusal ≡ numbered success → back there .message ≡ m
   shift-back q r =
-      let somewhere = passed m xs ys q .0 in
+      let at = placed-there m (newX m xs) (newY m ys) (passed m xs ys q .0) in
       let p = placed m xs ys q in
       let n = placedAt m (newX m xs) (newY m ys) in
       let s : back n .refusal ≡ numbered success = sym (ap (λ (k : Message). back k .refusal) p) ∙ r in
@@ -200,6 +190,6 @@ module _ (m : Message) (xs ys : List ℤ) (ox : OddMultiple (sumZ xs) → ⊥) (
       ∙ placed n (negℤ (sumZ xs) ∷ []) (negℤ (sumZ ys) ∷ []) s
       ∙ placed-again m (newX m xs) (newY m ys) (newX n (negℤ (sumZ xs) ∷ [])) (newY n (negℤ (sumZ ys) ∷ []))
       ∙ ap₂ (placedAt m)
-      (ap (λ (z : ℤ). movedTo z (negℤ (sumZ xs) ∷ [])) (placed-x m (newX m xs) (newY m ys) somewhere) ∙ moved-back (xOf (positionOf m)) xs ox)
-      (ap (λ (z : ℤ). movedTo z (negℤ (sumZ ys) ∷ [])) (placed-y m (newX m xs) (newY m ys) somewhere) ∙ moved-back (yOf (positionOf m)) ys oy)
+      (ap (λ (z : ℤ). movedTo z (negℤ (sumZ xs) ∷ [])) (ap xOf at) ∙ moved-back (xOf (positionOf m)) xs ox)
+      (ap (λ (z : ℤ). movedTo z (negℤ (sumZ ys) ∷ [])) (ap yOf at) ∙ moved-back (yOf (positionOf m)) ys oy)
       ∙ placed-own m

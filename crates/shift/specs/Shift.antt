@@ -13,8 +13,8 @@ use Rattle.message.specs.declared.Message.{Message}
 use Rattle.shift.specs.Positions.{positionOf, isSomewhere, xOf, yOf, placedAt}
 use Rattle.shift.specs.declared.Sums.{Sums}
 use Rattle.shift.specs.declared.Sums.the-variants as U
-use Rattle.shift.specs.declared.Moves.{Moves}
-use Rattle.shift.specs.declared.Moves.the-variants as M
+use Rattle.shift.specs.declared.NewPosition.{NewPosition}
+use Rattle.shift.specs.declared.NewPosition.the-variants as N
 use Rattle.shift.specs.declared.Shifted.{Shifted}
 
 -- where a message moves to on each axis: the step nearest to 750 times the old value plus the sum of the list
@@ -66,19 +66,19 @@ sumsOf xs ys = answered U.Refused (firstRefusal (listChecks xs ys)) (U.Of (recor
 abbrev pub stepChecks : ℤ → ℤ → List Check
 stepChecks x y = checkAt (isStep x) outOfRange 1 ∷ checkAt (isStep y) outOfRange 2 ∷ []
 
-unfoldable pub movesTo : ℤ → ℤ → Moves
-movesTo x y = answered M.Refused (firstRefusal (stepChecks x y)) (M.To (record { 0 = x }) (record { 0 = y }))
+unfoldable pub newPosition : ℤ → ℤ → NewPosition
+newPosition x y = answered N.Refused (firstRefusal (stepChecks x y)) (N.At (record { 0 = x }) (record { 0 = y }))
 
 -- the lists, and then the results, of a position x, y
-unfoldable pub movesOf : ℤ → ℤ → List ℤ → List ℤ → Moves
-movesOf x y xs ys =
-    answered M.Refused (firstRefusal (listChecks xs ys ++ stepChecks (movedTo x xs) (movedTo y ys)))
-    (M.To (record { 0 = movedTo x xs }) (record { 0 = movedTo y ys }))
+unfoldable pub movedPosition : ℤ → ℤ → List ℤ → List ℤ → NewPosition
+movedPosition x y xs ys =
+    answered N.Refused (firstRefusal (listChecks xs ys ++ stepChecks (movedTo x xs) (movedTo y ys)))
+    (N.At (record { 0 = movedTo x xs }) (record { 0 = movedTo y ys }))
 
 -- a refusal leaves the message as it was; else it is placed
 abbrev pub leftAs : Message → Refusal → Shifted
 leftAs m r = record { refusal = r; message = m }
 
-abbrev pub finishedOf : Message → Moves → Shifted
-finishedOf m (M.To x y) = record { refusal = numbered success; message = placedAt m (x .0) (y .0) }
-finishedOf m (M.Refused r) = leftAs m r
+abbrev pub finishedOf : Message → NewPosition → Shifted
+finishedOf m (N.At x y) = record { refusal = numbered success; message = placedAt m (x .0) (y .0) }
+finishedOf m (N.Refused r) = leftAs m r

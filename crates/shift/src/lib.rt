@@ -3,7 +3,7 @@
 ghost use mathlib.Core.Path.{_≡_};
 ghost use Rattle.units.specs.Steps.{nearestTo};
 ghost use Rattle.shift.specs.Positions.{trackPosition, positionOf, placedTrack, placedAt};
-ghost use Rattle.shift.specs.Shift.{sumsOf, movesTo, movesOf, leftAs, finishedOf, shiftedOf};
+ghost use Rattle.shift.specs.Shift.{sumsOf, newPosition, movedPosition, leftAs, finishedOf, shiftedOf};
 use message::Message;
 use message::Track;
 use refusal::Refusal;
@@ -24,9 +24,9 @@ pub enum Sums {
     Refused(Refusal),
 }
 
-// The steps that both axes move to, or the refusal of one.
-pub enum Moves {
-    To(LinkSteps, LinkSteps),
+// Where both axes have moved to, or the refusal of one.
+pub enum NewPosition {
+    At(LinkSteps, LinkSteps),
     Refused(Refusal),
 }
 
@@ -107,23 +107,23 @@ fn add_both(xs: &[i32], ys: &[i32]) -> Sums
     Sums::Of(dx, dy)
 }
 
-fn step_both(x: LinkSteps, dx: Feet, y: LinkSteps, dy: Feet) -> Moves
-    ensures { λ r. ⌜ r ≡ movesTo (nearestTo (x .0) (dx .0)) (nearestTo (y .0) (dy .0)) ⌝ }
+fn step_both(x: LinkSteps, dx: Feet, y: LinkSteps, dy: Feet) -> NewPosition
+    ensures { λ r. ⌜ r ≡ newPosition (nearestTo (x .0) (dx .0)) (nearestTo (y .0) (dy .0)) ⌝ }
 {
     let Moved::To(a) = units::move_step(x, dx) else {
-        return Moves::Refused(Refusal::at(refusal::OUT_OF_RANGE, 1));
+        return NewPosition::Refused(Refusal::at(refusal::OUT_OF_RANGE, 1));
     };
     let Moved::To(b) = units::move_step(y, dy) else {
-        return Moves::Refused(Refusal::at(refusal::OUT_OF_RANGE, 2));
+        return NewPosition::Refused(Refusal::at(refusal::OUT_OF_RANGE, 2));
     };
-    Moves::To(a, b)
+    NewPosition::At(a, b)
 }
 
-fn move_both(x: LinkSteps, y: LinkSteps, xs: &[i32], ys: &[i32]) -> Moves
-    ensures { λ r. ⌜ r ≡ movesOf (x .0) (y .0) (now (xs .entry)) (now (ys .entry)) ⌝ }
+fn move_both(x: LinkSteps, y: LinkSteps, xs: &[i32], ys: &[i32]) -> NewPosition
+    ensures { λ r. ⌜ r ≡ movedPosition (x .0) (y .0) (now (xs .entry)) (now (ys .entry)) ⌝ }
 {
     match add_both(xs, ys) {
-        Sums::Refused(r) => Moves::Refused(r),
+        Sums::Refused(r) => NewPosition::Refused(r),
         Sums::Of(dx, dy) => step_both(x, dx, y, dy),
     }
 }
@@ -138,12 +138,12 @@ fn refuse(m: Message, r: Refusal) -> Shifted
     }
 }
 
-fn finish(m: Message, moves: Moves) -> Shifted
-    ensures { λ r. ⌜ r ≡ finishedOf m moves ⌝ }
+fn finish(m: Message, position: NewPosition) -> Shifted
+    ensures { λ r. ⌜ r ≡ finishedOf m position ⌝ }
 {
-    match moves {
-        Moves::Refused(r) => refuse(m, r),
-        Moves::To(x, y) => Shifted {
+    match position {
+        NewPosition::Refused(r) => refuse(m, r),
+        NewPosition::At(x, y) => Shifted {
             refusal: Refusal::of(refusal::SUCCESS),
             message: place(m, x, y),
         },

@@ -3,14 +3,14 @@ use borrow.Author.Needs.{needs}
 use Rattle.shift.proofs.finish.Statement.{statement}
 use Rattle.shift.proofs.finish.Tie as tie
 
-enum-known-moves : tie.Need-enum-known-moves
-enum-known-moves c = search needs
+enum-known-position : tie.Need-enum-known-position
+enum-known-position c = search needs
 
 refuse-requires : tie.Need-refuse-requires
 refuse-requires c κs = search needs
 
-enum-known-moves-2 : tie.Need-enum-known-moves-2
-enum-known-moves-2 c = search needs
+enum-known-position-2 : tie.Need-enum-known-position-2
+enum-known-position-2 c = search needs
 
 of-requires : tie.Need-of-requires
 of-requires c κs = search needs
@@ -19,18 +19,18 @@ place-requires : tie.Need-place-requires
 place-requires c κs = search needs
 
 returns : tie.Need-returns
-returns c = rw (c .before .before .moves .given .1) (c .refuse .ensures)
+returns c = rw (c .before .before .position .given .1) (c .refuse .ensures)
 
 returns-2 : tie.Need-returns-2
-returns-2 c = rw (c .before .before .before .moves2 .given .1, c .before .of .ensures, c .place .ensures)
+returns-2 c = rw (c .before .before .before .position2 .given .1, c .before .of .ensures, c .place .ensures)
 
 pub finish-spec : {M : Type 1} → statement M
 finish-spec =
     tie.close
     (tie.spec
-    enum-known-moves
+    enum-known-position
     refuse-requires
-    enum-known-moves-2
+    enum-known-position-2
     of-requires
     place-requires
     returns

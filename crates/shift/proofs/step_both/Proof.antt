@@ -1,7 +1,7 @@
 -- `shift::step_both` meets its contract. Assumes nothing.
 use mathlib.Core.Path.{sym, _∙_}
 use Rattle.units.proofs.Ranges.{moved-is, moved-not}
-use Rattle.shift.specs.Shift.{movesTo}
+use Rattle.shift.specs.Shift.{newPosition}
 use borrow.Author.Needs.{needs}
 use Rattle.shift.proofs.step_both.Statement.{statement}
 use Rattle.shift.proofs.step_both.Tie as tie
@@ -19,7 +19,7 @@ at-requires : tie.Need-at-requires
 at-requires c κs = search needs
 
 returns : tie.Need-returns
-unfolding movesTo
+unfolding newPosition
 returns c =
     let t = c .before in
     rw (moved-not _ _ (sym (t .before .before .move-step .ensures) ∙ t .enum-told .given .1), c .at .ensures)
@@ -37,14 +37,14 @@ at-requires-2 : tie.Need-at-requires-2
 at-requires-2 c κs = search needs
 
 returns-2 : tie.Need-returns-2
-unfolding movesTo
+unfolding newPosition
 returns-2 c =
     let t = c .before in let a = t .before .before .before .before in
     let one = moved-is _ _ _ (sym (a .before .before .move-step .ensures) ∙ a .a .given .1) in
     rw (one .0, moved-not _ _ (sym (t .before .before .move-step2 .ensures) ∙ t .enum-told2 .given .1), c .at2 .ensures)
 
 returns-3 : tie.Need-returns-3
-unfolding movesTo
+unfolding newPosition
 returns-3 c =
     let b = c .before in let a = b .before .before .before .before in
     let one = moved-is _ _ _ (sym (a .before .before .move-step .ensures) ∙ a .a .given .1) in
