@@ -43,22 +43,22 @@ fn codes(
     altitude: u16,
     strength: u8,
     identification: u8,
-    special: u8,
+    special23: u8,
     traffic: u8,
     allocation: u8,
-    special2: u8,
+    special39: u8,
 ) -> Message {
     Message::S5(Amplifying {
         altitude: AltSteps(altitude),
         strength,
         identification,
-        special,
+        special23,
         simulated: true,
         drop: true,
         traffic,
         vx: 127,
         allocation,
-        special2,
+        special39,
         vy: 127,
     })
 }
@@ -80,13 +80,13 @@ fn moving(vx: i16, vy: i16) -> Message {
         altitude: AltSteps(1),
         strength: 0,
         identification: 0,
-        special: 0,
+        special23: 0,
         simulated: false,
         drop: false,
         traffic: 0,
         vx,
         allocation: 0,
-        special2: 0,
+        special39: 0,
         vy,
     })
 }
@@ -101,7 +101,7 @@ fn velocities() {
 
 fn strobe(
     width: u8,
-    category: u8,
+    strobe_type: u8,
     azimuth: u16,
     site: u8,
     sensor: u8,
@@ -112,7 +112,7 @@ fn strobe(
     Message::S6(Strobe {
         acquisition: true,
         width,
-        category,
+        strobe_type,
         simulated: true,
         azimuth,
         site,

@@ -106,13 +106,13 @@ fn fast() -> Message {
         altitude: AltSteps(511),
         strength: 0,
         identification: 15,
-        special: 3,
+        special23: 3,
         simulated: true,
         drop: false,
         traffic: 2,
         vx: -128,
         allocation: 1,
-        special2: 5,
+        special39: 5,
         vy: -128,
     })
 }

@@ -6,7 +6,7 @@ use Prim.Native.Nat.{ℕ, zero, suc, _-_, _≤_, _<_}
 use native.Mathlib.Omega.{arith}
 use native.Mathlib.Nat.{le-of-suc-le-suc, not-suc-le-zero}
 use borrow.Author.Tests.{leb-true, ltb-true, eqb-true}
-use lib.Dec.{T, leb, ltb, eqb}
+use lib.Dec.{T, leb, ltb, eqb, lit<}
 use lib.ListN.{length, take, getD}
 use Rattle.bits.specs.Tests.{both}
 use Rattle.bits.specs.Layout.{Field, Values}
@@ -123,3 +123,14 @@ row-at f S5 d = refl
 row-at f S6 d = refl
 row-at f S8 d = refl
 row-at f S8Plus d = refl
+
+pub number-lt : (k : Kind) → numberOf k < length allKinds
+number-lt Blank = lit< tt
+number-lt S0 = lit< tt
+number-lt S3 = lit< tt
+number-lt S4 = lit< tt
+number-lt S4Plus = lit< tt
+number-lt S5 = lit< tt
+number-lt S6 = lit< tt
+number-lt S8 = lit< tt
+number-lt S8Plus = lit< tt

@@ -4,11 +4,16 @@ use mathlib.Core.List.{List, [], _∷_}
 use Prim.Native.Nat.{ℕ, _%_, _^_}
 use lib.Dec.{eqb}
 use Rattle.bits.specs.Tests.{pick}
+use Rattle.refusal.specs.Refusals.{numbered, success, unknownLabel}
+use Rattle.refusal.specs.Checks.{Check, check, firstRefusal, answered}
+use Rattle.refusal.specs.declared.Refusal.{Refusal}
 use Rattle.kind.specs.Layouts.{allKinds, labelOf}
 use Rattle.kind.specs.declared.Kind.{Kind}
 use Rattle.kind.specs.declared.Kind.the-variants.{Blank}
 use Rattle.kind.specs.declared.Labelled.{Labelled}
 use Rattle.kind.specs.declared.Labelled.the-variants.{Known, Unknown}
+use Rattle.kind.specs.declared.Named.{Named}
+use Rattle.kind.specs.declared.Named.the-variants as N
 
 abbrev pub kindFrom : List Kind → ℕ → Labelled
 kindFrom [] n = Unknown
@@ -26,3 +31,20 @@ isKnown Unknown = false
 abbrev pub kindNamed : Labelled → Kind
 kindNamed (Known k) = k
 kindNamed Unknown = Blank
+
+-- ---- the kind of a label alone: 6
+
+abbrev pub nameChecks : ℕ → List Check
+nameChecks label = check (isKnown (kindFrom allKinds label)) unknownLabel ∷ []
+
+unfoldable pub nameRefusal : ℕ → Refusal
+nameRefusal label = firstRefusal (nameChecks label)
+
+-- what `kind_named` answers
+unfoldable pub namedOf : ℕ → Named
+namedOf label = answered N.Refused (nameRefusal label) (N.Kind (kindNamed (kindFrom allKinds label)))
+
+-- 01's number and place of each case
+abbrev pub refusalOf : Named → Refusal
+refusalOf (N.Kind k) = numbered success
+refusalOf (N.Refused r) = r

@@ -66,7 +66,7 @@ const STROBE: Table = Table {
 };
 
 // The layouts in the order of the kinds' numbers.
-const LAYOUTS: [Table; 9] = [
+const LAYOUTS: [Table; crate::KINDS] = [
     BLANK,
     TEST,
     IFF,

@@ -2,13 +2,15 @@
 
 ghost use mathlib.Core.Path.{_≡_};
 ghost use Prim.Native.Nat.{_<_};
-ghost use Rattle.kind.specs.Layouts.{numberOf, labelOf};
-ghost use Rattle.kind.specs.Labels.{labelledOf};
+ghost use lib.ListN.{length};
+ghost use Rattle.kind.specs.Layouts.{allKinds, numberOf, labelOf};
+ghost use Rattle.kind.specs.Labels.{kindFrom, labelledOf, refusalOf, namedOf};
 
 mod layouts;
 
 pub use layouts::is_laid_out;
 pub use layouts::layout;
+use refusal::Refusal;
 
 pub enum Kind {
     Blank,
@@ -35,9 +37,12 @@ pub struct Table {
     pub rules: [u64; 13],
 }
 
+// How many kinds there are.
+pub const KINDS: usize = 9;
+
 // The number of a kind, from 0: its place in every table that has a row for each kind.
 pub fn number(k: Kind) -> usize
-    ensures { λ r. ⌜ (r ≡ numberOf k) × (r < 9) ⌝ }
+    ensures { λ r. ⌜ (r ≡ numberOf k) × (r < length allKinds) ⌝ }
 {
     match k {
         Kind::Blank => 0,
@@ -53,7 +58,7 @@ pub fn number(k: Kind) -> usize
 }
 
 // The labels in the order of the kinds' numbers.
-const LABELS: [u8; 9] = [0, 46, 19, 17, 49, 18, 20, 21, 53];
+const LABELS: [u8; KINDS] = [0, 46, 19, 17, 49, 18, 20, 21, 53];
 
 // The label of a kind.
 pub fn label(k: Kind) -> u8
@@ -62,11 +67,9 @@ pub fn label(k: Kind) -> u8
     LABELS[number(k)]
 }
 
-// The kind that the label of a word names.
-pub fn find_kind(word: u64) -> Labelled
-    ensures { λ r. ⌜ r ≡ labelledOf word ⌝ }
+fn find_label(label: u64) -> Labelled
+    ensures { λ r. ⌜ r ≡ kindFrom allKinds label ⌝ }
 {
-    let label = word % 64;
     match label {
         0 => Labelled::Known(Kind::Blank),
         46 => Labelled::Known(Kind::S0),
@@ -78,5 +81,40 @@ pub fn find_kind(word: u64) -> Labelled
         21 => Labelled::Known(Kind::S8),
         53 => Labelled::Known(Kind::S8Plus),
         _ => Labelled::Unknown,
+    }
+}
+
+// The kind that the label of a word names.
+pub fn find_kind(word: u64) -> Labelled
+    ensures { λ r. ⌜ r ≡ labelledOf word ⌝ }
+{
+    find_label(word % 64)
+}
+
+// The kind of a label, or the refusal.
+pub enum Named {
+    Kind(Kind),
+    Refused(Refusal),
+}
+
+impl Named {
+    // The answer as a number and a place.
+    pub fn refusal(self) -> Refusal
+        ensures { λ r. ⌜ r ≡ refusalOf self ⌝ }
+    {
+        match self {
+            Named::Kind(_) => Refusal::of(refusal::SUCCESS),
+            Named::Refused(r) => r,
+        }
+    }
+}
+
+// The kind that a label names: 6.
+pub fn kind_named(label: u8) -> Named
+    ensures { λ r. ⌜ r ≡ namedOf label ⌝ }
+{
+    match find_label(label as u64) {
+        Labelled::Known(k) => Named::Kind(k),
+        Labelled::Unknown => Named::Refused(Refusal::of(refusal::UNKNOWN_LABEL)),
     }
 }

@@ -20,6 +20,10 @@ use Rattle.capture.specs.declared.Found.the-variants as F
 use Rattle.units.specs.Heights as heights
 use Rattle.units.specs.declared.Height.{Height}
 use Rattle.units.specs.declared.Height.the-variants as H
+use Rattle.kind.specs.Layouts.{allKinds}
+use Rattle.kind.specs.Labels as labels
+use Rattle.kind.specs.declared.Named.{Named}
+use Rattle.kind.specs.declared.Named.the-variants as N
 use Rattle.track.specs.TrackText as texts
 use Rattle.track.specs.declared.Tracked.{Tracked}
 use Rattle.track.specs.declared.Tracked.the-variants as T
@@ -41,6 +45,7 @@ use Rattle.capture.proofs.search.Reads as search-call
 use Rattle.units.proofs.altitude.Reads as altitude
 use Rattle.track.proofs.track_text.Reads as track-text
 use Rattle.track.proofs.track_number.Reads as track-number
+use Rattle.kind.proofs.kind_named.Reads as kind-named
 use Rattle.pair.proofs.open.Reads as open-call
 use Rattle.pair.proofs.close.Reads as close
 use Rattle.shift.proofs.shift.Reads as shift
@@ -77,6 +82,12 @@ pub open-refuses : (κs : Lfts 1) (a : _) (e : _) (r : Opened) → open-call.Pos
 unfolding opening.openOf opening.openRefusal
 open-refuses κs a e r p = refusal-told (opening.openChecks (now (a .0))) refl O.Refused opening.refusalOf
     (O.Pair (opening.wordMessage (opening.firstWord (now (a .0)))) (opening.wordMessage (opening.secondWord (now (a .0))))) (λ x. refl) refl (λ x z. zero-one (cc)) p
+
+pub kind-named-refuses : (κs : Lfts 0) (a : _) (e : _) (r : Named) → kind-named.Post κs a r e
+    → (ofTable (labels.refusalOf r) ≡ true) × ((x : Refusal) → r ≡ N.Refused x → Refuses x)
+unfolding labels.namedOf labels.nameRefusal
+kind-named-refuses κs a e r p =
+    refusal-told (labels.nameChecks (a .0)) refl N.Refused labels.refusalOf (N.Kind (labels.kindNamed (labels.kindFrom allKinds (a .0)))) (λ x. refl) refl (λ x z. zero-one (cc)) p
 
 pub search-refuses : (κs : Lfts 1) (a : _) (e : _) (r : Found) → search-call.Post κs a r e
     → (ofTable (searching.refusalOf r) ≡ true) × ((x : Refusal) → r ≡ F.Refused x → Refuses x)

@@ -59,13 +59,13 @@ zeros =
       altitude = record { 0 = 0 };
       strength = 0;
       identification = 0;
-      special = 0;
+      special23 = 0;
       simulated = false;
       drop = false;
       traffic = 0;
       vx = pos 0;
       allocation = 0;
-      special2 = 0;
+      special39 = 0;
       vy = pos 0;
     }
 

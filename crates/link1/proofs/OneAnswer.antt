@@ -15,6 +15,8 @@ use Rattle.line.proofs.send.Reads as send
 use Rattle.capture.proofs.search.Reads as search-call
 use Rattle.capture.proofs.Found.refusal.Reads as found-refusal
 use Rattle.kind.proofs.label.Reads as label
+use Rattle.kind.proofs.kind_named.Reads as kind-named
+use Rattle.kind.proofs.Named.refusal.Reads as named-refusal
 use Rattle.message.proofs.kind_of.Reads as kind-of
 use Rattle.track.proofs.track_text.Reads as track-text
 use Rattle.track.proofs.track_number.Reads as track-number
@@ -69,6 +71,12 @@ found-refusal-one κs a r s e f p q = same p q
 
 pub label-one : (κs : Lfts 0) (a : _) → One (label.Post κs a)
 label-one κs a r s e f p q = same p q
+
+pub kind-named-one : (κs : Lfts 0) (a : _) → One (kind-named.Post κs a)
+kind-named-one κs a r s e f p q = same p q
+
+pub named-refusal-one : (κs : Lfts 0) (a : _) → One (named-refusal.Post κs a)
+named-refusal-one κs a r s e f p q = same p q
 
 pub kind-of-one : (κs : Lfts 0) (a : _) → One (kind-of.Post κs a)
 kind-of-one κs a r s e f p q = same p q

@@ -26,6 +26,8 @@ pub use line::send;
 
 // Messages, pairs, and track numbers as text.
 pub use kind::Kind;
+pub use kind::Named;
+pub use kind::kind_named;
 pub use kind::label;
 pub use message::Amplifying;
 pub use message::Iff;

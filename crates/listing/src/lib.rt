@@ -119,11 +119,65 @@ pub fn list_log(log: &[u8], out: &mut [u8; ROOM]) -> usize
     fill(log, out)
 }
 
+// How many octets were read, and whether a read failed.
+struct Got {
+    count: usize,
+    failed: bool,
+}
+
+// One read.
+fn read_some(from: i32, space: &mut [u8]) -> Got
+    ensures { λ r. ⌜ (r .count ≤ length (now (space .exit))) × (length (now (space .exit)) ≡ length (now (space .entry))) ⌝ }
+{
+    let got = libc::read(from, space);
+    Got {
+        count: io::count(got, space),
+        failed: got < 0,
+    }
+}
+
+// Reads until the space is full, the input ends or a read fails.
+fn read_log(from: i32, space: &mut [u8]) -> Got
+    ensures { λ r. ⌜ Counts (r .count) (now (space .exit)) ⌝ }
+{
+    let mut count: usize = 0;
+    while count < space.len() {
+        let got = read_some(from, &mut space[count..]);
+        let more = got.count;
+        if more == 0 {
+            return Got {
+                count,
+                failed: got.failed,
+            };
+        }
+        count += more;
+    }
+    Got {
+        count,
+        failed: false,
+    }
+}
+
+// What became of a listing.
+pub enum Outcome {
+    Listed,
+    Unread,
+    Unwritten,
+}
+
 // Lists on one descriptor the log that is read from another. One octet more than a log may have is read, to tell that it has more.
-pub fn run(from: i32, to: i32) {
+pub fn run(from: i32, to: i32) -> Outcome {
     let mut space = [0u8; MOST + 1];
-    let n = io::read_full(from, &mut space);
+    let got = read_log(from, &mut space);
+    let n = got.count;
+    if got.failed {
+        return Outcome::Unread;
+    }
     let mut text = [0u8; ROOM];
     let k = list_log(&space[..n], &mut text);
-    io::write_all(to, &text[..k]);
+    if io::write_all(to, &text[..k]) {
+        Outcome::Listed
+    } else {
+        Outcome::Unwritten
+    }
 }

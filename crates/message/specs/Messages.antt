@@ -60,25 +60,25 @@ amplifyingFrom = λ (a, (s, (i, (sp, (sim, (d, (t, (vx, (al, (sp2, (vy, e)))))))
       altitude = record { 0 = a };
       strength = s;
       identification = i;
-      special = sp;
+      special23 = sp;
       simulated = sim;
       drop = d;
       traffic = t;
       vx = vx;
       allocation = al;
-      special2 = sp2;
+      special39 = sp2;
       vy = vy;
     }
 
 abbrev pub amplifyingParts : Amplifying → Values amplifyingLayout
-amplifyingParts a = (a .altitude .0, (a .strength, (a .identification, (a .special, (a .simulated, (a .drop, (a .traffic, (a .vx, (a .allocation, (a .special2, (a .vy, tt)))))))))))
+amplifyingParts a = (a .altitude .0, (a .strength, (a .identification, (a .special23, (a .simulated, (a .drop, (a .traffic, (a .vx, (a .allocation, (a .special39, (a .vy, tt)))))))))))
 
 abbrev pub strobeFrom : Values strobeLayout → Strobe
 strobeFrom = λ (a, (w, (c, (sim, (az, (si, (se, (n, (el, (ag, e)))))))))).
     record {
       acquisition = a;
       width = w;
-      category = c;
+      «strobe_type» = c;
       simulated = sim;
       azimuth = az;
       site = si;
@@ -89,7 +89,7 @@ strobeFrom = λ (a, (w, (c, (sim, (az, (si, (se, (n, (el, (ag, e)))))))))).
     }
 
 abbrev pub strobeParts : Strobe → Values strobeLayout
-strobeParts s = (s .acquisition, (s .width, (s .category, (s .simulated, (s .azimuth, (s .site, (s .sensor, (s .number, (s .elevation, (s .age, tt))))))))))
+strobeParts s = (s .acquisition, (s .width, (s .«strobe_type», (s .simulated, (s .azimuth, (s .site, (s .sensor, (s .number, (s .elevation, (s .age, tt))))))))))
 
 -- ---- a message from the values of its kind, and back
 

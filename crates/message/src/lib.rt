@@ -36,18 +36,18 @@ pub struct Track {
     pub y: LinkSteps,
 }
 
-// S.5, the amplifying track data message. Velocities are in 1/128 data mile a second.
+// S.5, the amplifying track data message. Velocities are in 1/128 data mile a second; the special-use fields are named by their lowest bit.
 pub struct Amplifying {
     pub altitude: AltSteps,
     pub strength: u8,
     pub identification: u8,
-    pub special: u8,
+    pub special23: u8,
     pub simulated: bool,
     pub drop: bool,
     pub traffic: u8,
     pub vx: i16,
     pub allocation: u8,
-    pub special2: u8,
+    pub special39: u8,
     pub vy: i16,
 }
 
@@ -55,7 +55,7 @@ pub struct Amplifying {
 pub struct Strobe {
     pub acquisition: bool,
     pub width: u8,
-    pub category: u8,
+    pub strobe_type: u8,
     pub simulated: bool,
     pub azimuth: u16,
     pub site: u8,

@@ -15,7 +15,7 @@ const YES: bool = true;
 const NO: bool = false;
 
 // A row for each first kind, a column for each second: Blank, S.0, S.3, S.4, S.4+, S.5, S.6, S.8, S.8+.
-const PAIRS: [[bool; 9]; 9] = [
+const PAIRS: [[bool; kind::KINDS]; kind::KINDS] = [
     [NO, NO, NO, NO, NO, NO, NO, NO, NO], // Blank
     [NO, YES, NO, NO, NO, NO, NO, NO, NO], // S.0
     [NO, NO, NO, NO, NO, NO, NO, NO, NO], // S.3

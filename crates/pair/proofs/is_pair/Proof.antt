@@ -1,6 +1,7 @@
 -- `pair::is_pair` meets its contract. Assumes nothing.
 use mathlib.Core.Path.{_∙_, ap₂}
 use borrow.Author.Needs.{needs}
+use Rattle.pair.specs.Pairs.{pairOf}
 use Rattle.pair.proofs.Table.{pairs, entry, pair-at}
 use Rattle.pair.proofs.is_pair.Statement.{statement}
 use Rattle.pair.proofs.is_pair.Tie as tie
@@ -21,7 +22,7 @@ index-2-result : tie.Need-index-2-result
 index-2-result c = search needs
 
 returns : tie.Need-returns
-unfolding pairs
+unfolding pairs pairOf
 returns c =
     let n = c .before .before in
     let m = c .before in
