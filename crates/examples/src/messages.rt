@@ -56,7 +56,7 @@ fn strobe(s: Strobe) {
 }
 
 pub fn tell(m: Message) {
-    named(b", ", link1::label(link1::kind_of(m)));
+    named(b", ", link1::label(link1::kind_of(m)) as u64);
     match m {
         Message::Blank => {}
         Message::S0 => {}
