@@ -2,21 +2,21 @@
 use mathlib.Core.Path.{_≡_, refl, ap, ap₂, _∙_}
 use mathlib.Core.Bool.{Bool, true}
 use mathlib.Core.List.{List, [], _∷_, map}
-use Prim.Native.Nat.{ℕ, zero, suc, _+_, _-_, _≤_, _<_}
+use Prim.Native.Nat.{ℕ, zero, suc, _-_, _≤_, _<_}
 use native.Mathlib.Omega.{arith}
 use native.Mathlib.Nat.{le-of-suc-le-suc, not-suc-le-zero}
 use borrow.Author.Tests.{leb-true, ltb-true, eqb-true}
 use lib.Dec.{T, leb, ltb, eqb, lit<}
 use lib.ListN.{length, take, getD}
-use Rattle.bits.specs.Tests.{both, every}
+use Rattle.bits.specs.Tests.{both}
 use Rattle.bits.specs.Layout.{Field, Values}
 use Rattle.bits.specs.Rules.{widthsOf, rulesOf, rawOf, total}
 use Rattle.kind.specs.Layouts.{allKinds, numberOf, labelOf, layoutOf}
-use Rattle.kind.specs.Tables.{padded, startsIn, widthsIn, tableOf}
+use Rattle.kind.specs.Tables.{padded, tableOf}
 use Rattle.kind.specs.declared.Kind.{Kind}
 use Rattle.kind.specs.declared.Table.{Table}
 use Rattle.kind.specs.declared.Kind.the-variants.{Blank, S0, S3, S4, S4Plus, S5, S6, S8, S8Plus}
-use Rattle.bits.proofs.TestLaws.{both-true, to-T, every-at}
+use Rattle.bits.proofs.TestLaws.{both-true, to-T}
 use Rattle.bits.proofs.RuleLaws.{allFew}
 
 -- what is behind the last field is cut off again
@@ -37,18 +37,13 @@ pub length-raw : (fs : List Field) (vs : Values fs) → length (rawOf fs vs) ≡
 length-raw [] vs = refl
 length-raw (f ∷ fs) vs = ap suc (length-raw fs (vs .1))
 
--- field i ends below bit 64
-abbrev ends : Kind → ℕ → Bool
-ends k i = ltb (getD (startsIn (layoutOf k)) i 0 + getD (widthsIn (layoutOf k)) i 0) 64
-
 -- what is computed of each kind
 abbrev lawful : Kind → Bool
 lawful k =
     both (ltb (labelOf k) 64)
-    (both (leb (length (layoutOf k)) 13) (both (eqb (total (widthsOf (layoutOf k))) 43) (both (allFew (layoutOf k)) (every (ends k) 13))))
+    (both (leb (length (layoutOf k)) 13) (both (eqb (total (widthsOf (layoutOf k))) 43) (allFew (layoutOf k))))
 
 laid : (k : Kind) → lawful k ≡ true
-unfolding every
 laid Blank = refl
 laid S0 = refl
 laid S3 = refl
@@ -60,8 +55,8 @@ laid S8 = refl
 laid S8Plus = refl
 
 module _ (k : Kind) where
-  parts : (ltb (labelOf k) 64 ≡ true) × (leb (length (layoutOf k)) 13 ≡ true) × (eqb (total (widthsOf (layoutOf k))) 43 ≡ true) × (allFew (layoutOf k) ≡ true) × (every (ends k) 13 ≡ true)
-  parts = let p = both-true (laid k) in let q = both-true (p .1) in let r = both-true (q .1) in let t = both-true (r .1) in (p .0, q .0, r .0, t .0, t .1)
+  parts : (ltb (labelOf k) 64 ≡ true) × (leb (length (layoutOf k)) 13 ≡ true) × (eqb (total (widthsOf (layoutOf k))) 43 ≡ true) × (allFew (layoutOf k) ≡ true)
+  parts = let p = both-true (laid k) in let q = both-true (p .1) in let r = both-true (q .1) in (p .0, q .0, r .0, r .1)
 
   pub label-lt : labelOf k < 64
   label-lt = ltb-true _ _ (parts .0)
@@ -74,9 +69,6 @@ module _ (k : Kind) where
 
   pub few : T (allFew (layoutOf k))
   few = to-T (parts .3)
-
-  pub part-ends-below : (i : ℕ) → i < 13 → getD (startsIn (layoutOf k)) i 0 + getD (widthsIn (layoutOf k)) i 0 < 64
-  part-ends-below i h = ltb-true _ _ (every-at (ends k) 13 (parts .4) i h)
 
 -- ---- the part of a table that the code hands on
 

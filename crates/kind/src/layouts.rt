@@ -1,10 +1,9 @@
 // The layouts of the kinds, as tables (001, Annex C, Appendix 2).
 
 ghost use mathlib.Core.Path.{_≡_};
-ghost use Prim.Native.Nat.{_<_};
 ghost use Rattle.bits.specs.Layout.{allowed};
 ghost use Rattle.kind.specs.Layouts.{layoutOf};
-ghost use Rattle.kind.specs.Tables.{tableOf, partOf};
+ghost use Rattle.kind.specs.Tables.{tableOf};
 use crate::Kind;
 use crate::Table;
 
@@ -13,7 +12,6 @@ const FIXED: u64 = bits::FIXED;
 // Bits 7 to 49 of Blank: zeros.
 const BLANK: Table = Table {
     count: 1,
-    starts: [6, 0, 0, 0, 0, 0, 0, 0, 0, 0, 0, 0, 0],
     widths: [43, 0, 0, 0, 0, 0, 0, 0, 0, 0, 0, 0, 0],
     rules: [FIXED, 0, 0, 0, 0, 0, 0, 0, 0, 0, 0, 0, 0],
 };
@@ -21,7 +19,6 @@ const BLANK: Table = Table {
 // S.0: a zero, and then each group's label and zero.
 const TEST: Table = Table {
     count: 13,
-    starts: [6, 7, 13, 14, 20, 21, 27, 28, 34, 35, 41, 42, 48],
     widths: [1, 6, 1, 6, 1, 6, 1, 6, 1, 6, 1, 6, 1],
     rules: [
         FIXED,
@@ -43,7 +40,6 @@ const TEST: Table = Table {
 // S.3: spare, Mode 3/A, request/reply without 1, 3, 5, 6 and 7, emergency, presence of Modes 1, 2 and 3/A, validation, spare, Mode 1, spare, Mode 2.
 const IFF: Table = Table {
     count: 12,
-    starts: [6, 8, 20, 23, 24, 25, 26, 27, 28, 30, 35, 37, 0],
     widths: [2, 12, 3, 1, 1, 1, 1, 1, 2, 5, 2, 12, 0],
     rules: [FIXED, 0, 0b1110_1010, 0, 0, 0, 0, 0, FIXED, 0, FIXED, 0, 0],
 };
@@ -51,7 +47,6 @@ const IFF: Table = Table {
 // S.4, S.4+, S.8 and S.8+: track number, quality, X, Y.
 const TRACK: Table = Table {
     count: 4,
-    starts: [6, 21, 23, 36, 0, 0, 0, 0, 0, 0, 0, 0, 0],
     widths: [15, 2, 13, 13, 0, 0, 0, 0, 0, 0, 0, 0, 0],
     rules: [0, 0, 0, 0, 0, 0, 0, 0, 0, 0, 0, 0, 0],
 };
@@ -59,7 +54,6 @@ const TRACK: Table = Table {
 // S.5: altitude, strength without 1, identification, special, simulated, drop, traffic class, X velocity, allocation, special, Y velocity.
 const AMPLIFYING: Table = Table {
     count: 11,
-    starts: [6, 15, 18, 22, 24, 25, 26, 28, 36, 38, 41, 0, 0],
     widths: [9, 3, 4, 2, 1, 1, 2, 8, 2, 3, 8, 0, 0],
     rules: [0, 0b10, 0, 0, 0, 0, 0, 0, 0, 0, 0, 0, 0],
 };
@@ -67,7 +61,6 @@ const AMPLIFYING: Table = Table {
 // S.6: acquisition, width, type, simulated, azimuth, site, sensor, number, elevation without 13, 14 and 15, age.
 const STROBE: Table = Table {
     count: 10,
-    starts: [6, 7, 10, 12, 13, 25, 31, 34, 39, 43, 0, 0, 0],
     widths: [1, 3, 2, 1, 12, 6, 3, 5, 4, 6, 0, 0, 0],
     rules: [0, 0, 0, 0, 0, 0, 0, 0, 0b1110_0000_0000_0000, 0, 0, 0, 0],
 };
@@ -90,17 +83,6 @@ pub fn layout(k: Kind) -> Table
     ensures { λ r. ⌜ r ≡ tableOf (layoutOf k) ⌝ }
 {
     LAYOUTS[crate::number(k)]
-}
-
-// Field i of a word, from 0 above the label, by the kind's layout.
-pub fn part(k: Kind, word: u64, i: usize) -> u64
-    requires { ⌜ i < 13 ⌝ }
-    ensures { λ r. ⌜ r ≡ partOf (layoutOf k) word i ⌝ }
-{
-    let table = layout(k);
-    let starts = table.starts;
-    let widths = table.widths;
-    bits::field(word, starts[i], widths[i])
 }
 
 // Whether a word above its label is as the kind's layout has it.

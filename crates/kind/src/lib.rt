@@ -10,7 +10,6 @@ mod layouts;
 
 pub use layouts::is_laid_out;
 pub use layouts::layout;
-pub use layouts::part;
 use refusal::Refusal;
 
 pub enum Kind {
@@ -31,10 +30,9 @@ pub enum Labelled {
     Unknown,
 }
 
-// A kind's layout above the label: where each field begins, its width and its rule, with zeros behind the last.
+// A kind's layout above the label: the width and the rule of each field, with zeros behind the last.
 pub struct Table {
     pub count: usize,
-    pub starts: [u32; 13],
     pub widths: [u32; 13],
     pub rules: [u64; 13],
 }
