@@ -3,7 +3,8 @@
 use mathlib.Core.Path.{_≡_, refl, sym, ap, ap₂, _∙_}
 use mathlib.Core.Bool.{Bool, true, false}
 use mathlib.Core.List.{List, [], _∷_, List·Permᴰ}
-use Prim.Native.Nat.{ℕ, _^_}
+use Prim.Native.Nat.{ℕ, zero, suc, _^_}
+use lib.ListN.{drop}
 use lib.IntN.{ℤ, pos, negℤ, _+ℤ_, _*ℤ_}
 use lib.Dec.{ltb}
 use lib.Signed.{mag}
@@ -11,7 +12,7 @@ use native.Mathlib.Omega.{arith}
 use borrow.Author.Tests.{ltb-true}
 use Rattle.bits.specs.Tests.{pick, both}
 use Rattle.bits.specs.Twos.{unsignedOf}
-use Rattle.bits.specs.Layout.{Field, fixed, number, signed, widthOf, Values, allows, fits, join, writeAs}
+use Rattle.bits.specs.Layout.{Field, signed, widthOf, Values, allows, fits, join, writeAs}
 use Rattle.refusal.specs.Refusals.{numbered, success}
 use Rattle.refusal.specs.Checks.{onSuccess}
 use Rattle.refusal.specs.declared.Refusal.{Refusal}
@@ -19,10 +20,9 @@ use Rattle.units.specs.Offsets.{areOffsets, sumZ}
 use Rattle.units.specs.Steps.{isStep, movedTo}
 use Rattle.units.specs.Nearest.{Nearest, OddMultiple}
 use Rattle.message.specs.Codec.{encodedOf}
-use Rattle.kind.specs.Layouts.{labelOf, trackLayout, wholeOf}
+use Rattle.kind.specs.Layouts.{wholeOf}
 use Rattle.message.specs.Messages.{trackParts, kindOf, partsOf}
 use Rattle.kind.specs.declared.Kind.the-variants as k
-use Rattle.message.specs.declared.Track.{Track}
 use Rattle.message.specs.declared.Message.{Message}
 use Rattle.message.specs.declared.Message.the-variants as m
 use Rattle.shift.specs.Positions.{positionOf, isSomewhere, xOf, yOf, placedAt}
@@ -137,25 +137,36 @@ in-range z e = go (ltb (mag z) 4096) refl e
     go true h q = mag-step z (ltb-true _ _ h)
     go false h q = absurd (omega (arith, ltb-true 8192 8192 q))
 
-track-range : (label : ℕ) (t : Track) → fits (fixed 6 label ∷ trackLayout) (tt, trackParts t) ≡ true → (isStep (t .x .0) ≡ true) × (isStep (t .y .0) ≡ true)
-track-range label t e =
-    let after-label = fits-parts (fixed 6 label) trackLayout (tt, trackParts t) e .1 in
-    let after-number = fits-parts (number 15) (number 2 ∷ signed 12 ∷ signed 12 ∷ []) (trackParts t) after-label .1 in
-    let after-quality = fits-parts (number 2) (signed 12 ∷ signed 12 ∷ []) (t .quality, (t .x .0, (t .y .0, tt))) after-number .1 in
-    let x = fits-parts (signed 12) (signed 12 ∷ []) (t .x .0, (t .y .0, tt)) after-quality in
-    (in-range (t .x .0) (x .0), in-range (t .y .0) (fits-parts (signed 12) [] (t .y .0, tt) (x .1) .0))
+-- the values after the first n, which fit what is left of the layout
+rest : (n : ℕ) (fs : List Field) → Values fs → Values (drop n fs)
+rest zero fs vs = vs
+rest (suc n) [] vs = vs
+rest (suc n) (f ∷ fs) vs = rest n fs (vs .1)
 
+fits-rest : (n : ℕ) (fs : List Field) (vs : Values fs) → fits fs vs ≡ true → fits (drop n fs) (rest n fs vs) ≡ true
+unfolding rest
+fits-rest zero fs vs e = e
+fits-rest (suc n) [] vs e = e
+fits-rest (suc n) (f ∷ fs) vs e = fits-rest n fs (vs .1) (fits-parts f fs vs e .1)
+
+both-in-range : (x y : ℤ) → fits (signed 12 ∷ signed 12 ∷ []) (x, (y, tt)) ≡ true → (isStep x ≡ true) × (isStep y ≡ true)
+both-in-range x y e =
+    let p = fits-parts (signed 12) (signed 12 ∷ []) (x, (y, tt)) e in
+    (in-range x (p .0), in-range y (fits-parts (signed 12) [] (y, tt) (p .1) .0))
+
+-- X and Y come after the label, the number and the quality of a track
 range : (m : Message) → isSomewhere (positionOf m) ≡ true → encodedOf m .fits ≡ true
     → (isStep (xOf (positionOf m)) ≡ true) × (isStep (yOf (positionOf m)) ≡ true)
+unfolding rest
 range m.Blank h f = absurd (clash h refl)
 range m.S0 h f = absurd (clash h refl)
 range (m.S3 i) h f = absurd (clash h refl)
-range (m.S4 t) h f = track-range (labelOf k.S4) t (fits-whole (m.S4 t) f)
-range (m.S4Plus t) h f = track-range (labelOf k.S4Plus) t (fits-whole (m.S4Plus t) f)
+range (m.S4 t) h f = both-in-range (t .x .0) (t .y .0) (fits-rest 3 (wholeOf k.S4) (tt, trackParts t) (fits-whole (m.S4 t) f))
+range (m.S4Plus t) h f = both-in-range (t .x .0) (t .y .0) (fits-rest 3 (wholeOf k.S4Plus) (tt, trackParts t) (fits-whole (m.S4Plus t) f))
 range (m.S5 a) h f = absurd (clash h refl)
 range (m.S6 s) h f = absurd (clash h refl)
-range (m.S8 t) h f = track-range (labelOf k.S8) t (fits-whole (m.S8 t) f)
-range (m.S8Plus t) h f = track-range (labelOf k.S8Plus) t (fits-whole (m.S8Plus t) f)
+range (m.S8 t) h f = both-in-range (t .x .0) (t .y .0) (fits-rest 3 (wholeOf k.S8) (tt, trackParts t) (fits-whole (m.S8 t) f))
+range (m.S8Plus t) h f = both-in-range (t .x .0) (t .y .0) (fits-rest 3 (wholeOf k.S8Plus) (tt, trackParts t) (fits-whole (m.S8Plus t) f))
 
 pub nothing-moves : (m : Message) → isSomewhere (positionOf m) ≡ true → encodedOf m .fits ≡ true
     → shiftedOf m [] [] ≡ record { refusal = numbered success; message = m }
