@@ -2,7 +2,7 @@
 
 -- an accepted frame closes again to the same 128 bits; a legal pair opens again unchanged; exactly the legal pairs close
 pub use Rattle.pair.proofs.Demand2.{opened-closes, closed-opens, legal-closes, closes-legal}
--- the table that the code has says what the definition says, has 17 yes, and keeps 01's four rules at any two kinds
+-- the table that the code has says what the definition says, has so many yes, and keeps 01's four rules at any two kinds
 pub use Rattle.pair.proofs.Table.{pair-at, pairs-counted, four-rules}
 -- a search gives the first good frame's position, and where it gives none there is none
 pub use Rattle.capture.proofs.SearchLaws.{found-least, none-found}
