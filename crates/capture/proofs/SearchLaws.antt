@@ -12,7 +12,6 @@ use Rattle.refusal.specs.Refusals.{success, badLength, outOfRange, noFrame, num
 use Rattle.refusal.specs.Checks.{check, firstRefusal, answered}
 use Rattle.refusal.specs.declared.Refusal.{Refusal}
 use Rattle.capture.specs.Search.{goodAt, NoneIn, Least, NoneFrom, firstGood, leastFrom, searchChecks, searchRefusal, searchOf}
-use Rattle.capture.specs.declared.Found.{Found}
 use Rattle.capture.specs.declared.Found.the-variants.{At, Refused}
 use Rattle.bits.proofs.TestLaws.{by-lt, clash, zero-one}
 use Rattle.refusal.proofs.CheckLaws.{success-passed, answer-refused}

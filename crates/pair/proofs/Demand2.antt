@@ -1,7 +1,7 @@
 -- DEMAND 2: what opens closes to the same sixteen octets; a pair that closes opens again unchanged; and exactly the pairs of the
 -- table with legal content close. Assumes nothing.
 use mathlib.Core.Path.{_≡_, refl, sym, ap, ap₂, _∙_}
-use mathlib.Core.Bool.{Bool, true, false}
+use mathlib.Core.Bool.{true}
 use mathlib.Core.List.{List}
 use Prim.Native.Nat.{ℕ, _<_}
 use borrow.Author.Tests.{eqb-true}
@@ -15,8 +15,7 @@ use Rattle.frame.specs.Frame.{goodFrame, verdictOf}
 use Rattle.frame.specs.Words.{imageOf}
 use Rattle.message.specs.Messages.{kindOf}
 use Rattle.kind.specs.Labels.{labelledOf, isKnown, kindNamed}
-use Rattle.message.specs.Codec.{contentKept, messageIn, contentOf, encodedOf}
-use Rattle.kind.specs.declared.Kind.{Kind}
+use Rattle.message.specs.Codec.{contentOf, encodedOf}
 use Rattle.message.specs.declared.Message.{Message}
 use Rattle.kind.specs.declared.Labelled.{Labelled}
 use Rattle.kind.specs.declared.Labelled.the-variants.{Known, Unknown}
@@ -24,7 +23,6 @@ use Rattle.message.specs.declared.Content.the-variants.{Good}
 use Rattle.pair.specs.Pairs.{pairOf}
 use Rattle.pair.specs.Opening.{isLabelled, wordKind, isContent, wordMessage, firstWord, secondWord, openChecks, openRefusal, openOf, openWords, openContents}
 use Rattle.pair.specs.Closing.{closeChecks, closeRefusal, closeImage}
-use Rattle.pair.specs.declared.Opened.{Opened}
 use Rattle.pair.specs.declared.Opened.the-variants.{Pair, Refused}
 use Rattle.bits.proofs.TestLaws.{clash, zero-one}
 use Rattle.refusal.proofs.CheckLaws.{Passed, success-passed, answer-is}

@@ -2,12 +2,12 @@
 use mathlib.Core.Path.{_≡_, refl, sym, ap, _∙_}
 use mathlib.Core.Bool.{Bool, true, false}
 use mathlib.Core.List.{List, [], _∷_, _++_}
-use Prim.Native.Nat.{ℕ, _≤_}
+use Prim.Native.Nat.{_≤_}
 use native.Mathlib.Omega.{arith}
 use borrow.Author.Tests.{eq-eqb, ne-eqb, eqb-true, leb-true}
 use lib.Dec.{eqb, leb}
 use Rattle.bits.specs.Tests.{pick, both}
-use Rattle.bits.proofs.TestLaws.{both-true, clash}
+use Rattle.bits.proofs.TestLaws.{both-true}
 use Rattle.refusal.specs.Refusals.{success, noPosition, numbered}
 use Rattle.refusal.specs.Checks.{Check, firstRefusal, onSuccess, answered}
 use Rattle.refusal.specs.declared.Refusal.{Refusal}
@@ -89,9 +89,6 @@ module _ {A : Type 0} (r : Refusal) (new old : A) where
 
 -- an answer that is an enum, by its refusal
 module _ {A : Type 0} (refused : Refusal → A) (value : A) where
-  pub answer-value : {s : Refusal} → s ≡ numbered success → answered refused s value ≡ value
-  answer-value {s} e = given s value (refused s) (ap (λ (x : Refusal). x .number) e)
-
   pub answer-refused : {s r : Refusal} → s ≡ r → (r .number ≡ success → ⊥) → answered refused s value ≡ refused r
   answer-refused {s} {r} e h = left s value (refused s) (λ q. h (sym (ap (λ (x : Refusal). x .number) e) ∙ q)) ∙ ap refused e
 

@@ -7,7 +7,7 @@ use lib.Dec.{eqb}
 use lib.IntN.{ℤ}
 use Rattle.bits.specs.Tests.{pick}
 use Rattle.refusal.specs.Refusals.{success, noPosition, badContent, numbered, numberedAt}
-use Rattle.refusal.specs.Checks.{Check, check, checkAt, firstRefusal, onSuccess, answered}
+use Rattle.refusal.specs.Checks.{check, checkAt, firstRefusal, onSuccess, answered}
 use Rattle.refusal.specs.declared.Refusal.{Refusal}
 use Rattle.units.specs.Offsets.{sumZ}
 use Rattle.units.specs.Steps.{nearestTo, movedTo}

@@ -14,7 +14,6 @@ use Rattle.bits.specs.Tests.{pick, both}
 use Rattle.bits.specs.Twos.{unsignedOf}
 use Rattle.bits.specs.Layout.{Field, signed, widthOf, Values, allows, fits, join, writeAs}
 use Rattle.refusal.specs.Refusals.{numbered, success}
-use Rattle.refusal.specs.Checks.{onSuccess}
 use Rattle.refusal.specs.declared.Refusal.{Refusal}
 use Rattle.units.specs.Offsets.{areOffsets, sumZ}
 use Rattle.units.specs.Steps.{isStep, movedTo}

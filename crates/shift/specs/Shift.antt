@@ -7,7 +7,7 @@ use Rattle.refusal.specs.Refusals.{numbered, success, badLength, badContent, ou
 use Rattle.refusal.specs.Checks.{Check, check, checkAt, firstRefusal, onSuccess, answered}
 use Rattle.refusal.specs.declared.Refusal.{Refusal}
 use Rattle.units.specs.Offsets.{areOffsets, sumZ}
-use Rattle.units.specs.Steps.{nearestTo, movedTo, isStep}
+use Rattle.units.specs.Steps.{movedTo, isStep}
 use Rattle.message.specs.Codec.{encodedOf}
 use Rattle.message.specs.declared.Message.{Message}
 use Rattle.shift.specs.Positions.{positionOf, isSomewhere, xOf, yOf, placedAt}

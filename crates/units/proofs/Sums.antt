@@ -1,12 +1,11 @@
 -- The loop over a list of offsets: its invariant, kept by a turn, and what it gives at the end. Laws of sums. Assumes nothing.
 use mathlib.Core.Path.{_≡_, refl, sym, ap, _∙_}
 use mathlib.Core.Bool.{Bool, true, false}
-use mathlib.Core.List.{List, [], _∷_}
-use Prim.Native.Nat.{ℕ, suc, _+_, _*_, _^_, _≤_, _<_}
+use mathlib.Core.List.{List, []}
+use Prim.Native.Nat.{ℕ, suc, _+_, _*_, _≤_, _<_}
 use native.Mathlib.Numerals.{add-one}
 use native.Mathlib.Omega.{arith}
 use lib.IntN.{ℤ, pos, negsuc, _+ℤ_, +ℤ-idl, +ℤ-idr, +ℤ-assoc}
-use lib.Signed.{mag}
 use lib.ListN.{length, getD, drop}
 use lib.Seq.{drop-cons, drop-length}
 use mir.Syntax.{w32}
@@ -15,8 +14,8 @@ use Rattle.bits.specs.Tests.{pick, both}
 use Rattle.units.specs.Offsets.{isOffset, areOffsets, sumZ, summedOf}
 use Rattle.units.specs.declared.Feet.{Feet}
 use Rattle.units.specs.declared.Summed.the-variants as S
-use Rattle.bits.proofs.TestLaws.{zero-one, both-true}
-use Rattle.units.proofs.Parts.{up, dn, side, add-le, parts-mag, sfits}
+use Rattle.bits.proofs.TestLaws.{zero-one}
+use Rattle.units.proofs.Parts.{up, dn, side, add-le, sfits}
 use Rattle.units.proofs.Ranges.{within-parts}
 
 -- after i offsets, all in range, s is their sum
@@ -79,16 +78,6 @@ done xs i s inv h =
     simp (c, a)
 
 -- ---- what a sum says of its list
-
-pub sum-bound : (xs : List ℤ) → areOffsets xs ≡ true → (up (sumZ xs) ≤ 6144000 * length xs) × (dn (sumZ xs) ≤ 6144000 * length xs)
-unfolding areOffsets sumZ
-sum-bound [] e = omega arith
-sum-bound (x ∷ xs) e =
-    let p = both-true {a = isOffset x} {b = areOffsets xs} e in
-    omega (arith, sum-bound xs (p .1), offset-parts x (p .0), add-le x (sumZ xs))
-
-pub sum-small : (xs : List ℤ) → length xs ≤ 8 → areOffsets xs ≡ true → mag (sumZ xs) < 2 ^ 30
-sum-small xs h e = parts-mag (sumZ xs) (omega (arith, sum-bound xs e, h))
 
 pub summed-is : (xs : List ℤ) (s : Feet) → summedOf xs ≡ S.To s → (areOffsets xs ≡ true) × (sumZ xs ≡ s .0)
 unfolding summedOf

@@ -1,10 +1,8 @@
 -- `pair::open` meets its contract. Assumes nothing.
-use mathlib.Core.Path.{_≡_, sym, ap, ap₂, _∙_}
+use mathlib.Core.Path.{sym, ap, ap₂, _∙_}
 use Prim.Native.Nat.{ℕ}
 use borrow.Author.Needs.{needs}
-use Rattle.refusal.specs.Refusals.{success}
 use Rattle.refusal.specs.declared.Refusal.{Refusal}
-use Rattle.frame.specs.Frame.{verdictOf}
 use Rattle.pair.specs.Opening.{openWords}
 use Rattle.frame.proofs.FrameLaws.{verdict-size}
 use Rattle.pair.proofs.PairLaws.{open-refused, open-good}

@@ -1,5 +1,5 @@
 -- `pair::open_contents` meets its contract. Assumes nothing.
-use mathlib.Core.Path.{sym, ap, ap₂, _∙_}
+use mathlib.Core.Path.{sym, _∙_}
 use borrow.Author.Needs.{needs}
 use Rattle.pair.specs.Opening.{openContents}
 use Rattle.pair.proofs.PairLaws.{content-good, content-bad}

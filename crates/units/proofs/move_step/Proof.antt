@@ -1,13 +1,13 @@
 -- `units::move_step` meets its contract. Assumes nothing.
 use native.Mathlib.Omega.{arith}
-use mathlib.Core.Path.{_≡_, _∙_, ap, sym}
+use mathlib.Core.Path.{_≡_}
 use lib.IntN.{ℤ, pos, _+ℤ_, _*ℤ_}
 use lib.Signed.{mag}
 use Prim.Native.Nat.{_^_, _<_}
 use mir.Syntax.{w16, w32, w64}
 use mir.Val.{SFits}
 use mir.Facts.{toZ-ofZ}
-use Rattle.units.specs.Steps.{near, nearestTo, movedBy}
+use Rattle.units.specs.Steps.{nearestTo}
 use Rattle.units.proofs.Parts.{add-le, mul-parts, mag-parts, parts-mag, sfits}
 use Rattle.units.proofs.Ranges.{moved-below, moved-above, moved-yes, step-fits}
 use Rattle.units.proofs.move_step.Statement.{statement}
