@@ -21,6 +21,7 @@ fn main() {
     list(b"pairs");
     list(b"refusals");
     list(b"damaged");
+    list(b"fields");
     list(b"full");
     list(b"over");
 }

@@ -1,0 +1,151 @@
+-- What the rows of Examples.antt and Facts.antt ask, and what comes: by the definitions that give the public calls' answers.
+use Prim.Native.Char.{code}
+use Prim.Native.String.{String}
+use Prim.Native.String as string
+use mathlib.Core.Bool.{Bool, false}
+use mathlib.Core.List.{List, [], _∷_, map}
+use Prim.Native.Nat.{ℕ, _-_}
+use lib.IntN.{ℤ, pos}
+use lib.ListN.{replicate}
+use Rattle.refusal.specs.declared.Refusal.{Refusal}
+use Rattle.frame.specs.Frame.{verdictOf}
+use Rattle.line.specs.Machine.{heardOf, run}
+use Rattle.line.specs.Sending.{sendRefusal, sendLevels}
+use Rattle.line.specs.declared.Heard.{Heard}
+use Rattle.capture.specs.Search.{searchOf, positionFound}
+use Rattle.capture.specs.Search as searching
+use Rattle.units.specs.Heights.{heightOf}
+use Rattle.units.specs.Heights as heights
+use Rattle.units.specs.declared.Height.{Height}
+use Rattle.units.specs.declared.Height.the-variants as H
+use Rattle.message.specs.declared.Track.{Track}
+use Rattle.message.specs.declared.Message.{Message}
+use Rattle.message.specs.declared.Message.the-variants as m
+use Rattle.track.specs.TrackText.{textRefusal, textAfter, trackedOf, numberIn}
+use Rattle.track.specs.TrackText as tracks
+use Rattle.pair.specs.Opening.{openOf, wordMessage, firstWord}
+use Rattle.pair.specs.Opening as opening
+use Rattle.pair.specs.Closing.{closeRefusal, closeImage}
+use Rattle.pair.specs.declared.Opened.{Opened}
+use Rattle.pair.specs.declared.Opened.the-variants as O
+use Rattle.shift.specs.Shift.{shiftedOf}
+
+-- ---- the rows' words
+
+-- a track at x and y
+abbrev pub track : ℕ → ℕ → ℤ → ℤ → Track
+track n q x y = record { number = n; quality = q; x = record { 0 = x }; y = record { 0 = y } }
+
+-- an S.4 of track AA000 at x, and at 0
+abbrev pub at : ℤ → Message
+at x = m.S4 (track 0 0 x (pos 0))
+
+-- the octets of a text; the levels that its digits write
+abbrev pub octets : String → List ℕ
+octets string.[] = []
+octets (string._∷_ c rest) = code c ∷ octets rest
+
+abbrev pub levels : String → List ℕ
+levels text = map (λ (c : ℕ). c - 48) (octets text)
+
+-- ---- what is asked
+
+pub data Asked : Type 0 where
+  -- an image to judge, or to open, or whose first track to name
+  verdict-of : List ℕ → Asked
+  open-image : List ℕ → Asked
+  name-track : List ℕ → Asked
+  -- two messages to close into a buffer
+  close-pair : Message → Message → List ℕ → Asked
+  -- an image to send after a level, into a buffer of 128 fives
+  send-after : ℕ → List ℕ → Asked
+  -- a level for a fresh receiver that has had some levels
+  hear-after : List ℕ → ℕ → Asked
+  -- a capture to search from a start
+  search-from : ℕ → List ℕ → Asked
+  -- a text to make a track number of
+  number-of : String → Asked
+  -- a message to shift by offsets on X and on Y
+  shift-by : Message → List ℤ → List ℤ → Asked
+  -- feet to make an altitude of
+  altitude-of : ℤ → Asked
+
+-- ---- what comes
+
+-- beside the number and the place
+pub data Value : Type 0 where
+  nothing : Value
+  pair : Message → Message → Value
+  buffer : List ℕ → Value
+  heard : Bool → List ℕ → Value
+  message : Message → Value
+  value : ℕ → Value
+
+-- 01's number and place, and the value
+pub record Came : Type 0 where
+  pub number : ℕ
+  pub place : ℕ
+  pub value : Value
+
+abbrev pub told : ℕ → ℕ → Value → Came
+told number place v = record { number = number; place = place; value = v }
+
+abbrev tell : Refusal → Value → Came
+tell r v = told (r .number) (r .place) v
+
+abbrev valueOpened : Opened → Value
+valueOpened (O.Pair first second) = pair first second
+valueOpened (O.Refused r) = nothing
+
+abbrev valueHeight : Height → Value
+valueHeight (H.At n) = value (n .0)
+valueHeight (H.Refused r) = nothing
+
+-- the track number of a message that has one
+abbrev trackIn : Message → ℕ
+trackIn m.Blank = 0
+trackIn m.S0 = 0
+trackIn (m.S3 i) = 0
+trackIn (m.S4 t) = t .number
+trackIn (m.S4Plus t) = t .number
+trackIn (m.S5 a) = 0
+trackIn (m.S6 s) = 0
+trackIn (m.S8 t) = t .number
+trackIn (m.S8Plus t) = t .number
+
+abbrev nameOf : ℕ → Came
+nameOf number = tell (textRefusal number (replicate 5 0)) (buffer (textAfter number (replicate 5 0)))
+
+abbrev tellHeard : Heard → Came
+tellHeard h = tell (h .refusal) (heard (h .frame) (h .image))
+
+unfoldable pub answer : Asked → Came
+answer (verdict-of image) = tell (verdictOf image) nothing
+answer (open-image image) = tell (opening.refusalOf (openOf image)) (valueOpened (openOf image))
+answer (name-track image) = nameOf (trackIn (wordMessage (firstWord image)))
+answer (close-pair first second b) = tell (closeRefusal first second b) (buffer (closeImage first second b))
+answer (send-after level image) =
+    tell (sendRefusal image level (replicate 128 5)) (buffer (sendLevels image level (replicate 128 5)))
+answer (hear-after before level) = tellHeard (heardOf (run before) level)
+answer (search-from start capture) =
+    tell (searching.refusalOf (searchOf capture start)) (value (positionFound (searchOf capture start)))
+answer (number-of text) = tell (tracks.refusalOf (trackedOf (octets text))) (value (numberIn (trackedOf (octets text))))
+answer (shift-by msg xs ys) = tell (shiftedOf msg xs ys .refusal) (message (shiftedOf msg xs ys .message))
+answer (altitude-of feet) = tell (heights.refusalOf (heightOf feet)) (valueHeight (heightOf feet))
+
+-- ---- a row
+
+pub record Row : Type 0 where
+  pub asked : Asked
+  pub came : Came
+
+infix 40 _⇒_
+abbrev pub _⇒_ : Asked → Came → Row
+a ⇒ c = record { asked = a; came = c }
+
+-- what is asked in a table's rows is answered, and what its rows say comes
+abbrev pub answers : List Row → List Came
+answers rows = map (λ (r : Row). answer (r .asked)) rows
+
+abbrev pub expected : List Row → List Came
+expected rows = map (λ (r : Row). r .came) rows

@@ -1,0 +1,259 @@
+-- Small facts of 001 and 01 in one table with one proof, so that a definition read wrongly is refused here even where code and proofs have
+-- the same mistake. The images and levels were worked out by model/. Assumes nothing.
+use mathlib.Core.Path.{_≡_, refl}
+use mathlib.Core.Bool.{true, false}
+use mathlib.Core.List.{List, [], _∷_, _++_, map}
+use Prim.Native.Nat.{ℕ, _+_, _-_}
+use lib.IntN.{ℤ, pos, negsuc}
+use lib.ListN.{replicate}
+use Rattle.bits.specs.Tests.{every}
+use Rattle.bits.specs.Numbers.{numOf, sumOf, tab}
+use Rattle.bits.specs.Octets.{octetsOf}
+use Rattle.bits.specs.Layout.{Field, widthOf}
+use Rattle.kind.specs.Layouts.{allKinds, labelOf, layoutOf}
+use Rattle.kind.specs.declared.Kind.{Kind}
+use Rattle.kind.specs.declared.Kind.the-variants as k
+use Rattle.frame.specs.Frame.{goodFrame}
+use Rattle.frame.specs.Words.{imageOf}
+use Rattle.line.specs.Machine.{holdsFrame}
+use Rattle.line.specs.Sending.{sendRefusal, sendLevels}
+use Rattle.capture.specs.Search.{goodAt, firstGood, searchRefusal, searchOf}
+use Rattle.units.specs.Offsets.{within, areOffsets, sumZ}
+use Rattle.units.specs.Steps.{near}
+use Rattle.message.specs.Codec.{encodedOf}
+use Rattle.message.specs.declared.Mode.the-variants.{Absent, Present}
+use Rattle.message.specs.declared.Iff.{Iff}
+use Rattle.message.specs.declared.Track.{Track}
+use Rattle.message.specs.declared.Amplifying.{Amplifying}
+use Rattle.message.specs.declared.Strobe.{Strobe}
+use Rattle.message.specs.declared.Message.{Message}
+use Rattle.message.specs.declared.Message.the-variants as m
+use Rattle.track.specs.TrackText.{trackRefusal, trackedOf}
+use Rattle.pair.specs.Pairs.{pairOf}
+use Rattle.pair.specs.Opening.{openRefusal, openOf}
+use Rattle.pair.specs.Closing.{closeRefusal, closeImage}
+use Rattle.shift.specs.Shift.{shiftRefusal, shiftedOf}
+use Rattle.link1.proofs.Asking.{Asked, open-image, close-pair, send-after, hear-after, search-from, number-of, shift-by}
+use Rattle.link1.proofs.Asking.{nothing, pair, buffer, heard, message, value, told, answer, Row, _⇒_, answers, expected, track, at, octets, levels}
+use Rattle.link1.proofs.Examples.{imageT}
+
+-- ---- labels and bit places (01, 'Messages')
+
+-- Blank 0, S.0 46, S.3 19, S.4 17, S.4+ 49, S.5 18, S.6 20, S.8 21, S.8+ 53
+pub labels-are : map labelOf allKinds ≡ 0 ∷ 46 ∷ 19 ∷ 17 ∷ 49 ∷ 18 ∷ 20 ∷ 21 ∷ 53 ∷ []
+labels-are = refl
+
+-- a field's first and last bit
+infix 90 _to_
+abbrev pub _to_ : ℕ → ℕ → List ℕ
+first to last = first ∷ last ∷ []
+
+-- those of a layout whose first field begins at a bit
+abbrev pub placesFrom : ℕ → List Field → List (List ℕ)
+placesFrom bit [] = []
+placesFrom bit (f ∷ fs) = bit to (bit + widthOf f - 1) ∷ placesFrom (bit + widthOf f) fs
+
+abbrev pub placesOf : Kind → List (List ℕ)
+placesOf kind = placesFrom 7 (layoutOf kind)
+
+abbrev trackPlaces : List (List ℕ)
+trackPlaces = 7 to 21 ∷ 22 to 23 ∷ 24 to 36 ∷ 37 to 49 ∷ []
+
+pub places-are :
+    map placesOf (k.S3 ∷ k.S4 ∷ k.S4Plus ∷ k.S5 ∷ k.S6 ∷ k.S8 ∷ k.S8Plus ∷ [])
+    ≡ (7 to 8 ∷ 9 to 20 ∷ 21 to 23 ∷ 24 to 24 ∷ 25 to 25 ∷ 26 to 26 ∷ 27 to 27 ∷ 28 to 28 ∷ 29 to 30 ∷ 31 to 35 ∷ 36 to 37 ∷ 38 to 49 ∷ [])
+    ∷ trackPlaces
+    ∷ trackPlaces
+    ∷ (7 to 15 ∷ 16 to 18 ∷ 19 to 22 ∷ 23 to 24 ∷ 25 to 25 ∷ 26 to 26 ∷ 27 to 28 ∷ 29 to 36 ∷ 37 to 38 ∷ 39 to 41 ∷ 42 to 49 ∷ [])
+    ∷ (7 to 7 ∷ 8 to 10 ∷ 11 to 12 ∷ 13 to 13 ∷ 14 to 25 ∷ 26 to 31 ∷ 32 to 34 ∷ 35 to 39 ∷ 40 to 43 ∷ 44 to 49 ∷ [])
+    ∷ trackPlaces
+    ∷ trackPlaces
+    ∷ []
+places-are = refl
+
+-- ---- messages with values that are all different; in three of them a code is left open
+
+abbrev trackA : Track
+trackA = track 12345 1 (negsuc 1233) (pos 3007)
+
+abbrev trackB : Track
+trackB = track 20001 2 (pos 77) (negsuc 3999)
+
+abbrev iffA : ℕ → Iff
+iffA n = record { mode3a = Present 1234; request = n; emergency = true; validation = false; mode1 = Absent; mode2 = Present 3001 }
+
+abbrev iffB : Iff
+iffB = record { mode3a = Absent; request = 2; emergency = false; validation = true; mode1 = Present 21; mode2 = Absent }
+
+abbrev amplifyingA : ℕ → Amplifying
+amplifyingA n =
+    record {
+      altitude = record { 0 = 300 };
+      strength = n;
+      identification = 9;
+      special23 = 1;
+      simulated = true;
+      drop = false;
+      traffic = 2;
+      vx = negsuc 76;
+      allocation = 3;
+      special39 = 5;
+      vy = pos 101;
+    }
+
+abbrev amplifyingB : Amplifying
+amplifyingB =
+    record {
+      altitude = record { 0 = 77 };
+      strength = 3;
+      identification = 6;
+      special23 = 2;
+      simulated = false;
+      drop = true;
+      traffic = 1;
+      vx = pos 60;
+      allocation = 1;
+      special39 = 2;
+      vy = negsuc 18;
+    }
+
+abbrev strobeA : ℕ → Strobe
+strobeA n =
+    record {
+      acquisition = true;
+      width = 3;
+      «strobe_type» = 1;
+      simulated = false;
+      azimuth = 1717;
+      site = 37;
+      sensor = 5;
+      number = 19;
+      elevation = n;
+      age = 50;
+    }
+
+abbrev strobeB : Strobe
+strobeB =
+    record {
+      acquisition = false;
+      width = 6;
+      «strobe_type» = 2;
+      simulated = true;
+      azimuth = 2900;
+      site = 22;
+      sensor = 1;
+      number = 9;
+      elevation = 2;
+      age = 33;
+    }
+
+-- their images: the octets of the first message behind those of the start group, of the second, and the check group's
+abbrev imageAB : List ℕ
+imageAB = 0 ∷ 0xc5 ∷ 0x9c ∷ 0x86 ∷ 0xce ∷ 0xcd ∷ 0xff ∷ 0xba ∷ 0xd5 ∷ 0x84 ∷ 0xb9 ∷ 0xb6 ∷ 0xa0 ∷ 0x81 ∷ 0xc1 ∷ 0xd9 ∷ []
+
+abbrev imageStrobes : List ℕ
+imageStrobes = 0 ∷ 0x95 ∷ 0xe9 ∷ 0xad ∷ 0xb5 ∷ 0x9b ∷ 0xce ∷ 0xd3 ∷ 0x94 ∷ 0xb6 ∷ 0xaa ∷ 0xeb ∷ 0xa9 ∷ 0x92 ∷ 0xa1 ∷ 0xe5 ∷ []
+
+abbrev imageIffA : List ℕ
+imageIffA = 0 ∷ 0xc7 ∷ 0x9c ∷ 0x86 ∷ 0xce ∷ 0xcd ∷ 0xff ∷ 0xba ∷ 0xe4 ∷ 0x92 ∷ 0xe4 ∷ 0xb6 ∷ 0x80 ∷ 0x93 ∷ 0xdd ∷ 0x8f ∷ []
+
+abbrev imageIffB : List ℕ
+imageIffB = 0 ∷ 0xd7 ∷ 0x84 ∷ 0xb9 ∷ 0xb6 ∷ 0xa0 ∷ 0x81 ∷ 0xc1 ∷ 0xe4 ∷ 0x80 ∷ 0x80 ∷ 0xc9 ∷ 0x95 ∷ 0x80 ∷ 0x80 ∷ 0xfb ∷ []
+
+abbrev imageAmplifyingA : List ℕ
+imageAmplifyingA = 0 ∷ 0xc7 ∷ 0x9c ∷ 0x86 ∷ 0xce ∷ 0xcd ∷ 0xff ∷ 0xba ∷ 0xa4 ∷ 0xb4 ∷ 0xdc ∷ 0xe9 ∷ 0xe6 ∷ 0xfb ∷ 0xa6 ∷ 0xfb ∷ []
+
+abbrev imageAmplifyingB : List ℕ
+imageAmplifyingB = 0 ∷ 0xd7 ∷ 0x84 ∷ 0xb9 ∷ 0xb6 ∷ 0xa0 ∷ 0x81 ∷ 0xc1 ∷ 0xa5 ∷ 0xb2 ∷ 0xb3 ∷ 0x96 ∷ 0x9e ∷ 0xa5 ∷ 0xb7 ∷ 0xfd ∷ []
+
+-- a buffer with something in it, and no octets of a frame
+abbrev fives : ℕ → List ℕ
+fives n = replicate n 5
+
+abbrev noOctets : List ℕ
+noOctets = replicate 16 0
+
+-- the levels of T after 0, and after 1
+abbrev levelsT0 : List ℕ
+levelsT0 = levels "00000000110100110010110011010011001011001101001100101100110100110010110011010011001011001101001100101100110100110010110010101010"
+
+abbrev levelsT1 : List ℕ
+levelsT1 = levels "11111111001011001101001100101100110100110010110011010011001011001101001100101100110100110010110011010011001011001101001101010101"
+
+-- X one step beyond the range
+abbrev far : Message
+far = at (pos 4096)
+
+pub facts : List Row
+facts =
+    -- every field in its place
+    (open-image imageAB ⇒ told 0 0 (pair (m.S4 trackA) (m.S8 trackB)))
+    ∷ (open-image imageStrobes ⇒ told 0 0 (pair (m.S6 (strobeA 11)) (m.S6 strobeB)))
+    ∷ (open-image imageIffA ⇒ told 0 0 (pair (m.S4Plus trackA) (m.S3 (iffA 4))))
+    ∷ (open-image imageIffB ⇒ told 0 0 (pair (m.S8Plus trackB) (m.S3 iffB)))
+    ∷ (open-image imageAmplifyingA ⇒ told 0 0 (pair (m.S4Plus trackA) (m.S5 (amplifyingA 6))))
+    ∷ (open-image imageAmplifyingB ⇒ told 0 0 (pair (m.S8Plus trackB) (m.S5 amplifyingB)))
+    -- closing: 2, 7, 8 first, 8 second, each told before the next, and the buffer left
+    ∷ (close-pair far m.S0 (fives 15) ⇒ told 2 0 (buffer (fives 15)))
+    ∷ (close-pair far m.S0 (fives 16) ⇒ told 7 0 (buffer (fives 16)))
+    ∷ (close-pair far far (fives 16) ⇒ told 8 1 (buffer (fives 16)))
+    ∷ (close-pair (at (pos 0)) far (fives 16) ⇒ told 8 2 (buffer (fives 16)))
+    ∷ (close-pair (m.S4 trackA) (m.S8 trackB) (fives 16) ⇒ told 0 0 (buffer imageAB))
+    -- a one changes the level
+    ∷ (send-after 0 imageT ⇒ told 0 0 (buffer levelsT0))
+    ∷ (send-after 1 imageT ⇒ told 0 0 (buffer levelsT1))
+    ∷ (send-after 2 imageT ⇒ told 1 0 (buffer (fives 128)))
+    -- where there is no frame the octets are zero
+    ∷ (hear-after [] 0 ⇒ told 0 0 (heard false noOctets))
+    ∷ (hear-after [] 2 ⇒ told 1 0 (heard false noOctets))
+    ∷ (hear-after (1 ∷ 0 ∷ []) 1 ⇒ told 0 0 (heard false noOctets))
+    -- the first bit of a capture has position 0
+    ∷ (search-from 0 imageT ⇒ told 0 0 (value 0))
+    ∷ (search-from 0 (0xff ∷ imageT) ⇒ told 0 0 (value 8))
+    ∷ (search-from 9 (0xff ∷ imageT) ⇒ told 10 0 (value 0))
+    ∷ (search-from 129 imageT ⇒ told 9 0 (value 0))
+    -- every letter and every digit
+    ∷ (number-of "AE012" ⇒ told 0 0 (value 522))
+    ∷ (number-of "GH345" ⇒ told 0 0 (value 9957))
+    ∷ (number-of "JK670" ⇒ told 0 0 (value 19384))
+    ∷ (number-of "LM123" ⇒ told 0 0 (value 28243))
+    ∷ (number-of "BA000" ⇒ told 9 0 (value 0))
+    -- each kind with a position, and one without
+    ∷ (shift-by (m.S4Plus trackA) (pos 375 ∷ []) (negsuc 1124 ∷ []) ⇒ told 0 0 (message (m.S4Plus (track 12345 1 (negsuc 1233) (pos 3006)))))
+    ∷ (shift-by (m.S8 trackB) [] (pos 750 ∷ []) ⇒ told 0 0 (message (m.S8 (track 20001 2 (pos 77) (negsuc 3998)))))
+    ∷ (shift-by (m.S8Plus trackB) (negsuc 749 ∷ []) [] ⇒ told 0 0 (message (m.S8Plus (track 20001 2 (pos 76) (negsuc 3999)))))
+    ∷ (shift-by (m.S6 (strobeA 11)) (replicate 9 (pos 0)) [] ⇒ told 11 0 (message (m.S6 (strobeA 11))))
+    -- 8, 2 X, 2 Y, 9 on X offsets, 9 on Y offsets, 9 on X result, 9 on Y result, each told before the next
+    ∷ (shift-by far (replicate 9 (pos 0)) [] ⇒ told 8 1 (message far))
+    ∷ (shift-by (at (pos 0)) (replicate 9 (pos 0)) (replicate 9 (pos 0)) ⇒ told 2 1 (message (at (pos 0))))
+    ∷ (shift-by (at (pos 0)) (pos 6144001 ∷ []) (replicate 9 (pos 0)) ⇒ told 2 2 (message (at (pos 0))))
+    ∷ (shift-by (at (pos 0)) (pos 6144001 ∷ []) (pos 6144001 ∷ []) ⇒ told 9 1 (message (at (pos 0))))
+    ∷ (shift-by (at (pos 0)) (pos 6144000 ∷ []) (pos 6144001 ∷ []) ⇒ told 9 2 (message (at (pos 0))))
+    ∷ (shift-by (at (pos 0)) (pos 6144000 ∷ []) (pos 6144000 ∷ []) ⇒ told 9 1 (message (at (pos 0))))
+    ∷ (shift-by (at (pos 0)) [] (pos 6144000 ∷ []) ⇒ told 9 2 (message (at (pos 0))))
+    ∷ []
+
+pub facts-hold : answers facts ≡ expected facts
+unfolding facts answer every numOf sumOf tab octetsOf goodFrame imageOf openRefusal openOf pairOf closeRefusal closeImage encodedOf sendRefusal sendLevels holdsFrame
+    goodAt firstGood searchRefusal searchOf trackRefusal trackedOf shiftedOf shiftRefusal areOffsets within sumZ near
+facts-hold = refl
+
+-- ---- codes that are not used (01, 'Messages'): the number that closing answers for each value
+
+abbrev numberClosing : Message → Message → ℕ
+numberClosing first second = closeRefusal first second (fives 16) .number
+
+-- request/reply 1, 3, 5, 6 and 7
+pub requests-are : tab (λ n. numberClosing (m.S4Plus trackA) (m.S3 (iffA n))) 8 ≡ 0 ∷ 8 ∷ 0 ∷ 8 ∷ 0 ∷ 8 ∷ 8 ∷ 8 ∷ []
+unfolding tab closeRefusal pairOf encodedOf
+requests-are = refl
+
+-- strength 1
+pub strengths-are : tab (λ n. numberClosing (m.S4Plus trackA) (m.S5 (amplifyingA n))) 8 ≡ 0 ∷ 8 ∷ replicate 6 0
+unfolding tab closeRefusal pairOf encodedOf
+strengths-are = refl
+
+-- elevation 13 to 15
+pub elevations-are : tab (λ n. numberClosing (m.S6 (strobeA n)) m.Blank) 16 ≡ replicate 13 0 ++ 8 ∷ 8 ∷ 8 ∷ []
+unfolding tab closeRefusal pairOf encodedOf
+elevations-are = refl

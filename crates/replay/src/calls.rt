@@ -1,0 +1,469 @@
+// The calls of the public list, each with its arguments from a line's parts and its whole answer told.
+
+use crate::messages;
+use crate::numbers;
+use crate::octets;
+use crate::parts;
+use crate::show;
+use link1::Feet;
+use link1::Found;
+use link1::Heard;
+use link1::Height;
+use link1::Message;
+use link1::Named;
+use link1::Opened;
+use link1::Receiver;
+use link1::Refusal;
+use link1::Tracked;
+use link1::Window;
+
+// ---- octets alone
+
+fn verdict(body: &[u8]) {
+    show::refusal(link1::verdict(body));
+}
+
+fn open(body: &[u8]) {
+    let opened = link1::open(body);
+    show::refusal(opened.refusal());
+    if let Opened::Pair(first, second) = opened {
+        show::text(b" ");
+        messages::tell(first);
+        show::text(b" ");
+        messages::tell(second);
+    }
+}
+
+fn track_number(body: &[u8]) {
+    let tracked = link1::track_number(body);
+    show::refusal(tracked.refusal());
+    if let Tracked::Number(n) = tracked {
+        show::number(n as u64);
+    }
+}
+
+fn is_zero(s: &[u8]) -> bool {
+    let mut i = 0;
+    while i < s.len() {
+        if s[i] != 0 {
+            return false;
+        }
+        i += 1;
+    }
+    true
+}
+
+// Whether an answer says nothing: no refusal, no frame, and octets of zero.
+fn is_silent(heard: Heard) -> bool {
+    let image = heard.image;
+    if heard.refusal.number != 0 {
+        return false;
+    }
+    if heard.refusal.place != 0 {
+        return false;
+    }
+    if heard.frame {
+        return false;
+    }
+    is_zero(&image)
+}
+
+// at I N P F OCTETS: the level's number from 1, the refusal, whether there is a frame, and the octets.
+fn tell_heard(i: usize, heard: Heard) {
+    let image = heard.image;
+    show::text(b"at");
+    show::number(i as u64);
+    show::text(b" ");
+    show::refusal(heard.refusal);
+    show::number(bits::bit_of(heard.frame));
+    show::octets(&image);
+    show::text(b" ");
+}
+
+// state STARTED LAST OCTETS
+fn tell_state(receiver: Receiver) {
+    let window = receiver.window;
+    show::text(b"state");
+    show::number(bits::bit_of(receiver.started));
+    show::number(receiver.last as u64);
+    show::text(b" x");
+    show::bits(window.older);
+    show::bits(window.newer);
+}
+
+fn step(receiver: Receiver, i: usize, level: u8) -> Receiver {
+    let heard = receiver.step(level);
+    if !is_silent(heard) {
+        tell_heard(i, heard);
+    }
+    heard.receiver
+}
+
+// Feeds a run of levels: each answer that is not silent, then the state.
+fn feed(given: Receiver, levels: &[u8]) {
+    let mut receiver = given;
+    let mut i = 0;
+    while i < levels.len() {
+        receiver = step(receiver, i + 1, levels[i]);
+        i += 1;
+    }
+    tell_state(receiver);
+}
+
+// ---- numbers, then octets
+
+// search START CAPTURE
+fn search(line: &[u8], body: &[u8]) {
+    if !numbers::is_up_to(line, 1, 0x100_0000_0000) {
+        return show::refuse();
+    }
+    let found = link1::search(body, numbers::read(line, 1) as usize);
+    show::refusal(found.refusal());
+    if let Found::At(position) = found {
+        show::number(position as u64);
+    }
+}
+
+// track_text NUMBER BUFFER
+fn track_text(line: &[u8], body: &mut [u8]) {
+    if !numbers::is_up_to(line, 1, 65535) {
+        return show::refuse();
+    }
+    let n = numbers::u16_at(line, 1, 0);
+    show::refusal(link1::track_text(n, body));
+    show::plain(body);
+}
+
+fn send_into(body: &[u8], previous: u8, levels: &mut [u8]) {
+    show::refusal(link1::send(body, previous, levels));
+    show::levels(levels);
+}
+
+// send PREVIOUS LENGTH IMAGE: a buffer of so many octets, each 5, is lent.
+fn send(line: &[u8], body: &[u8]) {
+    let mut levels = [5u8; 256];
+    let length = numbers::read(line, 2) as usize;
+    if !numbers::is_up_to(line, 1, 255) {
+        return show::refuse();
+    }
+    if !numbers::is_up_to(line, 2, 256) {
+        return show::refuse();
+    }
+    if 256 < length {
+        return show::refuse();
+    }
+    send_into(body, numbers::u8_at(line, 1, 0), &mut levels[0..length]);
+}
+
+// The octets from index i on as a number, behind another.
+fn push(w: u64, body: &[u8], i: usize) -> u64 {
+    (w << 8) | (parts::octet(body, i) as u64)
+}
+
+fn push_four(w: u64, body: &[u8], i: usize) -> u64 {
+    let a = push(w, body, i);
+    let b = push(a, body, std::num::wrapping_add_usize(i, 1));
+    let c = push(b, body, std::num::wrapping_add_usize(i, 2));
+    push(c, body, std::num::wrapping_add_usize(i, 3))
+}
+
+fn window(body: &[u8]) -> Window {
+    Window {
+        older: push_four(push_four(0, body, 0), body, 4),
+        newer: push_four(push_four(0, body, 8), body, 12),
+    }
+}
+
+// resume STARTED LAST WINDOW LEVELS: the window is sixteen octets.
+fn resume(line: &[u8], body: &[u8]) {
+    if !numbers::is_up_to(line, 1, 1) {
+        return show::refuse();
+    }
+    if !numbers::is_up_to(line, 2, 255) {
+        return show::refuse();
+    }
+    if body.len() < 16 {
+        return show::refuse();
+    }
+    let receiver = Receiver {
+        started: numbers::bool_at(line, 1, 0),
+        last: numbers::u8_at(line, 2, 0),
+        window: window(body),
+    };
+    feed(receiver, &body[16..]);
+}
+
+// ---- numbers alone
+
+// altitude FEET
+fn altitude(line: &[u8]) {
+    if parts::count(line) != 2 {
+        return show::refuse();
+    }
+    if !numbers::are_i32(line, 1, 2) {
+        return show::refuse();
+    }
+    let height = link1::altitude(Feet(numbers::i32_at(line, 1, 0)));
+    show::refusal(height.refusal());
+    if let Height::At(steps) = height {
+        show::number(steps.0 as u64);
+    }
+}
+
+fn is_one_octet(line: &[u8]) -> bool {
+    if parts::count(line) != 2 {
+        return false;
+    }
+    numbers::is_up_to(line, 1, 255)
+}
+
+// kind_named LABEL
+fn kind_named(line: &[u8]) {
+    if !is_one_octet(line) {
+        return show::refuse();
+    }
+    let named = link1::kind_named(numbers::u8_at(line, 1, 0));
+    show::refusal(named.refusal());
+    if let Named::Kind(k) = named {
+        show::text(b" ");
+        messages::tell_kind(k);
+    }
+}
+
+// refusal_of NUMBER
+fn refusal_of(line: &[u8]) {
+    if !is_one_octet(line) {
+        return show::refuse();
+    }
+    show::refusal(Refusal::of(numbers::u8_at(line, 1, 0)));
+}
+
+// refusal_at NUMBER PLACE
+fn refusal_at(line: &[u8]) {
+    if parts::count(line) != 3 {
+        return show::refuse();
+    }
+    if !numbers::is_up_to(line, 1, 255) {
+        return show::refuse();
+    }
+    if !numbers::is_up_to(line, 2, 255) {
+        return show::refuse();
+    }
+    let number = numbers::u8_at(line, 1, 0);
+    let place = numbers::u8_at(line, 2, 0);
+    show::refusal(Refusal::at(number, place));
+}
+
+// The numbers that a caller may get back, in the order of 01's table.
+fn tell_numbers() {
+    show::first_number(link1::SUCCESS as u64);
+    show::number(link1::BAD_LEVEL as u64);
+    show::number(link1::BAD_LENGTH as u64);
+    show::number(link1::BAD_START as u64);
+    show::number(link1::BAD_MARK as u64);
+    show::number(link1::BAD_CHECK as u64);
+    show::number(link1::UNKNOWN_LABEL as u64);
+    show::number(link1::BAD_PAIR as u64);
+    show::number(link1::BAD_CONTENT as u64);
+    show::number(link1::OUT_OF_RANGE as u64);
+    show::number(link1::NO_FRAME as u64);
+    show::number(link1::NO_POSITION as u64);
+}
+
+// numbers
+fn all_numbers(line: &[u8]) {
+    if parts::count(line) != 1 {
+        return show::refuse();
+    }
+    tell_numbers();
+}
+
+// ---- messages
+
+// close MESSAGE MESSAGE BUFFER
+fn close(line: &[u8], space: &mut [u8]) {
+    let first = messages::take(line, 1);
+    let second = messages::take(line, first.next);
+    let a = first.message;
+    let b = second.message;
+    if first.next == 0 {
+        return show::refuse();
+    }
+    if second.next == 0 {
+        return show::refuse();
+    }
+    let k = octets::gather(line, second.next, space);
+    if space.len() < k {
+        return show::refuse();
+    }
+    close_into(a, b, &mut space[0..k]);
+}
+
+fn close_into(first: Message, second: Message, buffer: &mut [u8]) {
+    show::refusal(link1::close(first, second, buffer));
+    show::octets(buffer);
+}
+
+// kind_of MESSAGE
+fn kind_of(line: &[u8]) {
+    let said = messages::take(line, 1);
+    let m = said.message;
+    if said.next != parts::count(line) {
+        return show::refuse();
+    }
+    messages::tell_kind(link1::kind_of(m));
+}
+
+// label KIND
+fn label(line: &[u8]) {
+    let said = messages::take_kind(line, 1);
+    let k = said.kind;
+    if said.next != parts::count(line) {
+        return show::refuse();
+    }
+    show::first_number(link1::label(k) as u64);
+}
+
+// X offsets from part x on, Y offsets from part y on.
+fn shift_by(m: Message, line: &[u8], x: usize, kx: usize, y: usize, ky: usize) {
+    let xs = numbers::list_at(line, x);
+    let ys = numbers::list_at(line, y);
+    if 16 < kx {
+        return show::refuse();
+    }
+    if 16 < ky {
+        return show::refuse();
+    }
+    let shifted = link1::shift(m, &xs[0..kx], &ys[0..ky]);
+    let after = shifted.message;
+    show::refusal(shifted.refusal);
+    show::text(b" ");
+    messages::tell(after);
+}
+
+// Whether offsets stand from part x on, then `and`, and offsets from there to the end.
+fn are_lists(line: &[u8], x: usize, middle: usize, end: usize) -> bool {
+    if end <= middle {
+        return false;
+    }
+    if !numbers::are_i32(line, x, middle) {
+        return false;
+    }
+    numbers::are_i32(line, std::num::wrapping_add_usize(middle, 1), end)
+}
+
+// shift MESSAGE by X .. and Y ..
+fn shift(line: &[u8]) {
+    let said = messages::take(line, 1);
+    let m = said.message;
+    let end = parts::count(line);
+    let x = std::num::wrapping_add_usize(said.next, 1);
+    let middle = parts::find(line, x, b"and");
+    let y = std::num::wrapping_add_usize(middle, 1);
+    if said.next == 0 {
+        return show::refuse();
+    }
+    if !parts::says(line, said.next, b"by") {
+        return show::refuse();
+    }
+    if !are_lists(line, x, middle, end) {
+        return show::refuse();
+    }
+    shift_by(
+        m,
+        line,
+        x,
+        std::num::wrapping_sub_usize(middle, x),
+        y,
+        std::num::wrapping_sub_usize(end, y),
+    );
+}
+
+// ---- which call a line says: the words of the calls, and the place of each
+
+const CALLS: [u8; 136] =
+    *b"verdict open hear track_number search track_text send resume close shift kind_of label kind_named altitude refusal_of refusal_at numbers";
+
+const VERDICT: usize = 0;
+
+const OPEN: usize = 1;
+
+const HEAR: usize = 2;
+
+const TRACK_NUMBER: usize = 3;
+
+const SEARCH: usize = 4;
+
+const TRACK_TEXT: usize = 5;
+
+const SEND: usize = 6;
+
+const RESUME: usize = 7;
+
+const CLOSE: usize = 8;
+
+const SHIFT: usize = 9;
+
+const KIND_OF: usize = 10;
+
+const LABEL: usize = 11;
+
+const KIND_NAMED: usize = 12;
+
+const ALTITUDE: usize = 13;
+
+const REFUSAL_OF: usize = 14;
+
+const REFUSAL_AT: usize = 15;
+
+const NUMBERS: usize = 16;
+
+// The part at which a call's octets begin.
+fn octets_from(said: usize) -> usize {
+    match said {
+        SEARCH => 2,
+        TRACK_TEXT => 2,
+        SEND => 3,
+        RESUME => 3,
+        _ => 1,
+    }
+}
+
+fn call_on(said: usize, line: &[u8], body: &mut [u8]) {
+    match said {
+        VERDICT => verdict(body),
+        OPEN => open(body),
+        HEAR => feed(Receiver::fresh(), body),
+        TRACK_NUMBER => track_number(body),
+        SEARCH => search(line, body),
+        TRACK_TEXT => track_text(line, body),
+        SEND => send(line, body),
+        RESUME => resume(line, body),
+        _ => show::refuse(),
+    }
+}
+
+fn call_octets(said: usize, line: &[u8], space: &mut [u8]) {
+    let k = octets::gather(line, octets_from(said), space);
+    if space.len() < k {
+        return show::refuse();
+    }
+    call_on(said, line, &mut space[0..k]);
+}
+
+// The call that a line says, and its answer.
+pub fn call(line: &[u8], space: &mut [u8]) {
+    let said = parts::which(&CALLS, line, 0);
+    match said {
+        CLOSE => close(line, space),
+        SHIFT => shift(line),
+        KIND_OF => kind_of(line),
+        LABEL => label(line),
+        KIND_NAMED => kind_named(line),
+        ALTITUDE => altitude(line),
+        REFUSAL_OF => refusal_of(line),
+        REFUSAL_AT => refusal_at(line),
+        NUMBERS => all_numbers(line),
+        _ => call_octets(said, line, space),
+    }
+}

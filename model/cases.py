@@ -1,0 +1,947 @@
+"""The cases, in groups. Each group is a function that gives its cases; its first line of text is the group's note."""
+
+import link1
+import lines
+from values import (FIRST, LEGAL_PAIRS, LENT, N, P, Q, SECOND, T, TRACK_KINDS, Stream, changed, image, label_bits,
+                    message, turned, turned_in_message, word_image)
+
+LENT16 = LENT[:16]
+PLAIN16 = bytes([0x5a]) * 16
+
+# A legal pair for a message of each kind in each place that it may have: the other message of the pair.
+PLACES = (("S4", 1, "Blank"), ("S4", 2, "S6"), ("S4+", 1, "S3"), ("S6", 1, "Blank"), ("S6", 2, "S4"),
+          ("S8", 1, "Blank"), ("S8", 2, "S4"), ("S8+", 1, "S5"), ("S3", 2, "S4+"), ("S5", 2, "S4+"), ("S3", 2, "S8+"),
+          ("S5", 2, "S8+"))
+
+
+def pair_of(given, which, other):
+    """This message in its place and a message of the other kind, all zero."""
+    return (given, message(other)) if which == 1 else (message(other), given)
+
+
+def closes(pairs, buffer=PLAIN16):
+    return [lines.close_pair(first, second, buffer) for first, second in pairs]
+
+
+def opens(images):
+    return [lines.open_image(octets) for octets in images]
+
+
+# 01 'Examples to hold against it'.
+
+def examples():
+    """The examples of the scope paper."""
+    track = message("S4", number=5203, quality=3)
+    cases = [lines.verdict(T), lines.open_image(T), lines.verdict(N), lines.open_image(N), lines.verdict(P),
+             lines.open_image(P), lines.verdict(Q), lines.open_image(Q),
+             ("verdict x00 xba*14 xff", "0 0"), ("open x00ba*14 xff", "0 0 S0 S0"),
+             ("open x00c480*13 xbb", "0 0 S4 number 0 quality 0 x 0 y 0 Blank")]
+    for octets in (P[:15] + b"\xba", P[:15] + b"\xb9", b"\x01" + P[1:], P[:15]):
+        cases += [lines.verdict(octets), lines.open_image(octets)]
+    cases += closes([(message("S0"), message("S0")), (message("Blank"), message("Blank")),
+                     (message("S4"), message("Blank")), (message("S4+"), message("S5")),
+                     (message("S4+"), message("Blank"))])
+    for step, offsets in ((1, [374]), (1, [375]), (-1, [-375]), (0, [400, 400]), (4095, [374]), (4095, [375]),
+                          (-4096, [-374]), (-4096, [-375])):
+        cases += [lines.shift(changed(track, x=step), offsets, []), lines.shift(changed(track, y=step), [], offsets)]
+    cases += [lines.altitude(feet) for feet in (562, 563, 191812, 191813)]
+    for text in (b"EG123", b"MM777", b"BA000", b"AA000"):
+        cases.append(lines.track_number(text, ["=" + text.decode("ascii")]))
+    cases += [lines.track_text(number, LENT[:5]) for number in (5203, 32767, 0)]
+    cases += [lines.search(start, b"") for start in (0, 1)] + [lines.search(start, P) for start in (0, 128, 129)]
+    return cases
+
+
+# 01 'Messages', labels; 01 'Numbers a caller may get back'.
+
+def names():
+    """Every label, kind and number by itself."""
+    cases = [lines.numbers()]
+    cases += [lines.label(kind) for kind in link1.KINDS]
+    cases += [lines.kind_named(number) for number in range(256)]
+    cases += [lines.kind_of(message(kind)) for kind in link1.KINDS]
+    cases += [lines.kind_of(given) for given in (FIRST["S4"], FIRST["S6"], SECOND["S3"], SECOND["S5"])]
+    cases += [lines.kind_of(message("S3", request=7, mode1=65535)), lines.kind_of(message("S8+", x=32767, y=-32768))]
+    cases += [lines.refusal_of(number) for number in (*link1.NUMBERS, 12, 13, 63, 64, 127, 128, 200, 254, 255)]
+    for place in (0, 1, 2, 3, 9, 128, 255):
+        cases += [lines.refusal_at(number, place) for number in (*link1.NUMBERS, 12, 128, 255)]
+    return cases
+
+
+# 01 'Which pairs may share a frame'.
+
+def pairs_closed():
+    """Every entry of the pair table, on closing."""
+    return closes([(message(first), message(second)) for first in link1.KINDS for second in link1.KINDS], LENT16)
+
+
+def pairs_opened():
+    """Every entry of the pair table, on opening."""
+    return opens([image(message(first), message(second)) for first in link1.KINDS for second in link1.KINDS])
+
+
+def labels_opened():
+    """Every label in the first place and in the second, beside known labels and unknown ones."""
+    cases = []
+    for label in range(64):
+        cases += opens([word_image(label_bits(label), label_bits(0)), word_image(label_bits(17), label_bits(label)),
+                        word_image(label_bits(label), label_bits(5)), word_image(label_bits(24), label_bits(label))])
+    return cases
+
+
+# 01 'Messages', the fields; 001 Annex C Appendix 3.
+
+def whole_messages():
+    """Each legal pair with fields that all differ, closed and opened."""
+    pairs = [(FIRST[first], SECOND[second]) for first, second in LEGAL_PAIRS]
+    return closes(pairs, LENT16) + opens([image(*pair) for pair in pairs])
+
+
+def random_messages():
+    """Each legal pair with random-looking fields, closed and opened."""
+    stream = Stream(1)
+    cases = []
+    for first, second in LEGAL_PAIRS * 6:
+        pair = (stream.message(first), stream.message(second))
+        cases += closes([pair]) + opens([image(*pair)])
+    return cases
+
+
+def fields_whole():
+    """Each field alone, all its bits set, closed and opened."""
+    cases = []
+    for kind, which, other in PLACES:
+        for word, first, last in link1.FIELDS[kind]:
+            lowest, highest = link1.field_range(word, first, last)
+            pair = pair_of(message(kind, **{word: -1 if lowest < 0 else highest}), which, other)
+            cases += closes([pair]) + opens([image(*pair)])
+    return cases
+
+
+def field_bits_closed():
+    """Each bit of each field alone, on closing."""
+    cases = []
+    for kind, which, other in PLACES:
+        for word, first, last in link1.FIELDS[kind]:
+            for n in range(first, last + 1):
+                value = 2 ** (n - first)
+                if word in link1.SIGNED and n == last:
+                    value = -value
+                cases += closes([pair_of(message(kind, **{word: value}), which, other)])
+    return cases
+
+
+def bits_opened():
+    """Each bit of a message alone above its label, on opening."""
+    return opens([turned_in_message(*pair_of(message(kind), which, other), which, n)
+                  for kind, which, other in PLACES for n in range(7, 50)])
+
+
+def bits_missing():
+    """Each bit of a message turned where the fields all differ, on opening."""
+    images = []
+    for first, second in (("S4", "S6"), ("S8+", "S3"), ("S4+", "S5"), ("S6", "S8")):
+        images += [turned_in_message(FIRST[first], SECOND[second], which, n) for which in (1, 2) for n in range(1, 50)]
+    return opens(images)
+
+
+# The fields that a call holds in 16 bits; the track number too, but not the strobe number.
+WIDE = ("altitude", "azimuth", "mode1", "mode2", "mode3a")
+
+
+def field_values(word, first, last):
+    """Both ends of a field's range, one beyond each, and far beyond, as far as the call's type holds them."""
+    lowest, highest = link1.field_range(word, first, last)
+    if word in link1.SIGNED:
+        return (lowest, lowest - 1, highest, highest + 1, 0, 255, 256, -256, -8192, 8192, 32767, -32768)
+    if highest == 1:
+        return (0, 1)
+    if word in WIDE or word == "number" and highest > 255:
+        return (0, highest, highest + 1, highest + 2, 255, 256, 32767, 32768, 65535)
+    return tuple(value for value in (0, highest, highest + 1, 2 * highest + 2, 128, 255) if value <= 255)
+
+
+def field_ranges():
+    """Each field at both ends of its range and beyond, on closing."""
+    cases = []
+    for kind, which, other in PLACES:
+        for word, first, last in link1.FIELDS[kind]:
+            cases += closes([pair_of(message(kind, **{word: value}), which, other)
+                             for value in field_values(word, first, last)], LENT16)
+    return cases
+
+
+# The code fields, those of up to four bits.
+CODES = (("S3", "request"), ("S3", "emergency"), ("S3", "validation"), ("S4", "quality"), ("S4+", "quality"),
+         ("S8", "quality"), ("S8+", "quality"), ("S5", "strength"), ("S5", "identification"), ("S5", "special23"),
+         ("S5", "simulated"), ("S5", "drop"), ("S5", "traffic"), ("S5", "allocation"), ("S5", "special39"),
+         ("S6", "acquisition"), ("S6", "width"), ("S6", "strobe_type"), ("S6", "simulated"), ("S6", "sensor"),
+         ("S6", "elevation"))
+
+
+def codes():
+    """Every value of every code field, closed and opened."""
+    cases = []
+    for kind, which, other in PLACES:
+        for word, first, last in link1.FIELDS[kind]:
+            if (kind, word) in CODES:
+                values = range(2 ** (last - first + 1))
+                pairs = [pair_of(message(kind, **{word: value}), which, other) for value in values]
+                cases += closes(pairs, LENT16) + opens([image(*pair) for pair in pairs])
+    return cases
+
+
+def small_numbers():
+    """Every value of Mode 1, strobe number, site and age."""
+    cases = []
+    for kind, word, which, other in (("S3", "mode1", 2, "S8+"), ("S6", "number", 1, "S4"), ("S6", "site", 2, "S6"),
+                                     ("S6", "age", 1, "S8")):
+        first, last = next((first, last) for name, first, last in link1.FIELDS[kind] if name == word)
+        pairs = [pair_of(message(kind, **{word: value}), which, other) for value in range(2 ** (last - first + 1))]
+        cases += opens([image(*pair) for pair in pairs]) + closes(pairs[::3])
+    return cases
+
+
+def signed_patterns():
+    """Positions and velocities around zero and at their ends, closed and opened."""
+    cases = []
+    for kind, which, other in PLACES:
+        for word, first, last in link1.FIELDS[kind]:
+            if word in link1.SIGNED:
+                lowest, highest = link1.field_range(word, first, last)
+                pairs = [pair_of(message(kind, **{word: value}), which, other)
+                         for value in (lowest, lowest + 1, -2, -1, 1, highest)]
+                cases += closes(pairs) + opens([image(*pair) for pair in pairs])
+    return cases
+
+
+# 01 'Messages', Blank, S.0 and S.3.
+
+def test_message():
+    """The test message with each of its bits turned, first and second."""
+    both = (message("S0"), message("S0"))
+    cases = closes([both], LENT16)
+    return cases + opens([turned_in_message(*both, which, n) for which in (1, 2) for n in range(1, 50)])
+
+
+def blank_message():
+    """Blank with each of its bits one, behind S.4, S.6 and S.8."""
+    return opens([turned_in_message(FIRST[first], message("Blank"), 2, n) for first in ("S4", "S6", "S8")
+                  for n in range(1, 50)])
+
+
+def modes_opened():
+    """Presence bits in every combination with code bits, and each code bit of an absent or present mode."""
+    present = {25: (31, 35), 26: (38, 49), 27: (9, 20)}
+    base = (FIRST["S8+"], message("S3"))
+    images = []
+    for chosen in range(8):
+        shown = [n for n in present if chosen // 2 ** (n - 25) % 2 == 1]
+        for filled in range(8):
+            coded = [present[n][filled % 2] for n in present if filled // 2 ** (n - 25) % 2 == 1]
+            images.append(turned_in_message(*base, 2, *shown, *coded))
+    for n, (first, last) in present.items():
+        others = [other for other in present if other != n]
+        for code in range(first, last + 1):
+            images += [turned_in_message(*base, 2, n, code), turned_in_message(*base, 2, *others, code)]
+    return opens(images)
+
+
+def modes_closed():
+    """Each mode absent, present with code 0, present with a code and too wide, in every combination."""
+    values = {"mode1": (None, 0, 13, 32), "mode2": (None, 0, 0x3a5, 4096), "mode3a": (None, 0, 0xd16, 4096)}
+    return closes([(message("S4+"), message("S3", mode1=mode1, mode2=mode2, mode3a=mode3a)) for mode1 in values["mode1"]
+                   for mode2 in values["mode2"] for mode3a in values["mode3a"]], LENT16)
+
+
+def spare_bits():
+    """Each spare bit of S.3 and every two of them, by themselves and with every mode present."""
+    full = message("S3", mode1=0x15, mode2=0x9c1, mode3a=0x2f4, request=2, validation=1)
+    images = [image(message("S4+"), full)]
+    for base in (message("S3"), full):
+        images += [turned_in_message(message("S4+"), base, 2, n) for n in link1.SPARE]
+        images += [turned_in_message(message("S8+"), base, 2, n, m) for n in link1.SPARE for m in link1.SPARE if n < m]
+    return opens(images)
+
+
+# 01 'From levels to a frame', the good frame.
+
+# The bits of a frame that are not message bits.
+FRAMING = (*range(1, 9), *link1.MARKS, *range(122, 128))
+
+
+def frame_bits():
+    """Each frame bit turned, of an example and of a pair with fields that all differ: verdict and opening."""
+    other = image(FIRST["S6"], SECOND["S8"])
+    cases = [lines.verdict(turned(octets, n)) for octets in (N, other) for n in range(1, 129)]
+    return cases + opens([turned(other, n) for n in range(1, 129)])
+
+
+def check_bits():
+    """Each message bit by itself with right check bits, and two turned in one column or in two."""
+    blank = message("Blank")
+    cases = []
+    for which in (1, 2):
+        cases += [lines.verdict(turned_in_message(blank, blank, which, n)) for n in range(1, 50)]
+    for j in range(1, 8):
+        for group in range(1, 15):
+            there, same_column, other_column = 8 * group + 1 + j, 8 * (group % 14 + 1) + 1 + j, 8 * group + 2 + j % 7
+            cases += [lines.verdict(turned(P, there, other)) for other in (same_column, other_column)]
+            if j < 7:
+                cases.append(lines.verdict(turned(T, there, 121 + j)))
+    return cases
+
+
+def octets_judged():
+    """Random-looking octets, random words in good frames, legal labels above random bits."""
+    stream = Stream(2)
+    cases = []
+    for _ in range(20):
+        octets = stream.octets(16)
+        cases += [lines.verdict(octets), lines.open_image(octets), lines.verdict(b"\x00" + octets[1:])]
+    for _ in range(40):
+        octets = word_image(stream.word(), stream.word())
+        cases += [lines.verdict(octets), lines.open_image(octets)]
+    for first, second in LEGAL_PAIRS * 6:
+        words = (stream.word(), stream.word())
+        link1.write_bits(words[0], 1, 6, link1.LABELS[first])
+        link1.write_bits(words[1], 1, 6, link1.LABELS[second])
+        cases.append(lines.open_image(word_image(*words)))
+    return cases
+
+
+def lengths():
+    """Images and buffers of every wrong length about the right one."""
+    cases = []
+    for length in (*range(0, 36), 127, 128, 129, 255, 256):
+        octets = (T * 16)[:length]
+        cases += [lines.verdict(octets), lines.open_image(octets)]
+        if length != 16:
+            cases.append(lines.close_pair(message("S0"), message("S0"), LENT[:length]))
+    cases += [lines.close_pair(FIRST["S4"], SECOND["S6"], LENT[:length]) for length in (0, 1, 15, 17, 32, 128)]
+    return cases
+
+
+# 01 'Orders of checks'.
+
+def faulty_image(faults):
+    """An image with these faults of '2 3 4 5 6a 6b 7 8a 8b', a and b for the first message and the second."""
+    first, second = message("S6", age=1), message("S6", age=2)
+    if "7" in faults:
+        first, second = (message("S3"), second) if "8a" in faults or "6b" in faults else (first, message("S5"))
+    faulty = {"S6": (40, 42, 43), "S3": (7,), "S5": (16,)}
+    bits = {1: link1.message_bits(first), 2: link1.message_bits(second)}
+    for which, fault, kind in ((1, "8a", first[0]), (2, "8b", second[0])):
+        if fault in faults:
+            for n in faulty[kind]:
+                bits[which][n] = 1
+    if "6a" in faults:
+        link1.write_bits(bits[1], 1, 6, 22)
+    if "6b" in faults:
+        link1.write_bits(bits[2], 1, 6, 50)
+    turns = [number for fault, number in (("3", 5), ("4", 73), ("5", 125)) if fault in faults]
+    octets = turned(word_image(bits[1], bits[2]), *turns)
+    return octets[:15] if "2" in faults else octets
+
+
+def order_of_opening():
+    """Opening: each fault, every two of them, all from each on, told as the first."""
+    faults = ("2", "3", "4", "5", "6a", "6b", "7", "8a", "8b")
+    chosen = [[fault] for fault in faults] + [[one, two] for at, one in enumerate(faults) for two in faults[at + 1:]]
+    chosen += [list(faults[at:]) for at in range(len(faults) - 2)] + [[]]
+    cases = []
+    for some in chosen:
+        octets = faulty_image(some)
+        cases += [lines.open_image(octets), lines.verdict(octets)]
+    labelled = [(22, "S4+"), (22, "Blank"), ("S5", 50), ("Blank", 50), ("S3", 63), (63, "S8+"), (1, 2), ("S0", 47),
+                (47, "S0")]
+    for labels in labelled:
+        first, second = (label_bits(link1.LABELS.get(label, label)) for label in labels)
+        cases.append(lines.open_image(word_image(first, second)))
+    for first, second in (("S0", "S0"), ("S6", "Blank"), ("S6", "S6")):
+        bits = link1.message_bits(message(first)), link1.message_bits(message(second))
+        for n in (40, 42, 43):
+            bits[0][n] = bits[1][n] = 1
+        cases.append(lines.open_image(word_image(*bits)))
+    return cases
+
+
+def order_of_closing():
+    """Closing: every choice of its faults, told as the first, and the buffer stays."""
+    cases = []
+    for kind, other, bad in (("S6", "S5", {"elevation": 13}), ("S4", "S3", {"quality": 4})):
+        for chosen in range(16):
+            length, wrong_pair, wrong_first, wrong_second = (chosen // 8, chosen // 4 % 2, chosen // 2 % 2, chosen % 2)
+            first = message(kind, **(bad if wrong_first else {}))
+            second = message(other, **({"S5": {"strength": 1}, "S3": {"mode2": 4096}}[other] if wrong_second else {}))
+            if not wrong_pair:
+                second = message("S6", **({"age": 64} if wrong_second else {}))
+            cases.append(lines.close_pair(first, second, LENT[:(15, 17)[chosen % 2]] if length else LENT16))
+    bad_first = (message("S3", request=1), message("S5", altitude=512), message("S4+", x=4096), message("S8+", y=-4097))
+    bad_second = (message("S3", mode1=32), message("S5", vx=128), message("S4+", quality=4),
+                  message("S8+", number=32768))
+    cases += [lines.close_pair(first, second, LENT16) for first in bad_first for second in bad_second]
+    cases += [lines.close_pair(message("Blank"), message("S4", x=4096), LENT16),
+              lines.close_pair(message("S4", x=4096), message("S0"), LENT16)]
+    return cases
+
+
+def order_of_sending():
+    """Sending: every choice of its faults, told as the first, and the buffer stays."""
+    cases = []
+    for chosen in range(64):
+        wrong = [chosen // 2 ** place % 2 == 1 for place in range(6)]
+        octets = image(FIRST["S4"], SECOND["S8"])
+        octets = turned(octets, *[number for fault, number in zip(wrong[3:], (8, 121, 122)) if fault])
+        length = 7 if wrong[1] else 128
+        cases.append(lines.send(6 if wrong[2] else 1, length, octets[:15] if wrong[0] else octets))
+    return cases
+
+
+# 01 'From levels to a frame', levels.
+
+HEARD = (T, N, P, Q, image(FIRST["S8+"], SECOND["S3"]), image(FIRST["S6"], SECOND["S4"]),
+         image(FIRST["S4"], SECOND["S6"]))
+
+
+def levels_of(bits, last):
+    """The levels that these bits are on the line, behind this level."""
+    levels = []
+    for bit in bits:
+        last = 1 - last if bit == 1 else last
+        levels.append(last)
+    return levels
+
+
+def run_of(bits, first):
+    """A first level and these bits behind it."""
+    return [first] + levels_of(bits, first)
+
+
+def swapped(levels):
+    return [1 - level for level in levels]
+
+
+def bits_of(*images):
+    return [bit for octets in images for bit in link1.octet_bits(octets)]
+
+
+def sending():
+    """Images sent from both levels, with every kind of refusal and wrong lengths."""
+    stream = Stream(3)
+    images = (*HEARD, stream.good_image(), stream.good_image(), word_image(stream.word(), stream.word()))
+    cases = [lines.send(previous, 128, octets) for octets in images for previous in (0, 1)]
+    cases += [lines.send(previous, 128, T) for previous in (2, 3, 4, 5, 6, 7, 8, 9, 10, 48, 49, 127, 128, 129, 254,
+                                                            255)]
+    cases += [lines.send(0, length, P) for length in (0, 1, 2, 15, 16, 17, 126, 127, 129, 130, 255, 256)]
+    cases += [lines.send(1, 128, (P * 2)[:length]) for length in (0, 1, 8, 14, 15, 17, 18, 32)]
+    cases += [lines.send(n % 2, 128, turned(HEARD[4], n)) for n in (*FRAMING, 10, 16, 60, 64, 66, 72, 120)]
+    return cases
+
+
+def frames_heard():
+    """A frame behind a first level, from both levels; the fresh receiver hands it over on the last level."""
+    stream = Stream(9)
+    images = (*HEARD, stream.good_image(), word_image(stream.word(), stream.word()))
+    return [lines.hear(run_of(bits_of(octets), first)) for octets in images for first in (0, 1)]
+
+
+def noise_heard():
+    """Bits before a frame: idle ones, random ones, 1 to 20 zeros, a start that is nearly right."""
+    stream = Stream(4)
+    cases = []
+    for number in range(1, 21):
+        octets = HEARD[number % len(HEARD)]
+        cases += [lines.hear(run_of([0] * number + bits_of(octets), number % 2)),
+                  lines.hear(run_of([1] + [0] * number + bits_of(octets), 0))]
+        cases.append(lines.hear(run_of([stream.below(2) for _ in range(number)] + bits_of(octets), number % 2)))
+    for ones in (1, 2, 7, 8, 9, 127, 128, 129):
+        cases.append(lines.hear(run_of([1] * ones + bits_of(P), 1)))
+    for zeros in range(1, 9):
+        cases.append(lines.hear(run_of([0] * zeros + [1] + bits_of(Q), 0)))
+        cases.append(lines.hear(run_of(bits_of(P)[:8 * zeros + 3] + bits_of(Q), 1)))
+    for zeros in (24, 64, 120, 128, 136, 200, 256):
+        cases.append(lines.hear(run_of([0] * zeros + bits_of(T), 0)))
+    return cases
+
+
+def false_locks():
+    """Eight zeros that lead into no frame, and the frame that begins inside what was taken for one."""
+    cases = []
+    for octets in (P, T, HEARD[4]):
+        for kept in (8, 9, 15, 16, 17, 24, 63, 64, 100, 120, 127):
+            cases.append(lines.hear(run_of(bits_of(N)[:kept] + bits_of(octets), kept % 2)))
+    for number in range(1, 9):
+        cases.append(lines.hear(run_of([0] * 8 + [1] * number + bits_of(Q), 0)))
+        cases.append(lines.hear(run_of([0] * 8 + [1] + [0] * number + bits_of(Q), 1)))
+    return cases
+
+
+def refused_levels():
+    """Levels that are neither 0 nor 1 before, inside and behind a frame count for nothing."""
+    cases = []
+    run = run_of(bits_of(HEARD[5]), 0)
+    for level in (2, 3, 7, 9, 255):
+        for at in (0, 1, 8, 9, 64, 127, 128, 129):
+            cases.append(lines.hear(run[:at] + [level] + run[at:]))
+    cases.append(lines.hear([level for pair in zip(run, [2, 255, 9, 128, 48] * 26) for level in pair][:80]))
+    cases += [lines.hear([level]) for level in range(256)]
+    cases += [lines.hear([0, level, 1]) for level in (2, 4, 5, 6, 8, 10, 100, 128, 129, 254)]
+    return cases
+
+
+def frames_in_turn():
+    """Two and three frames in turn, with no gap and with a gap of 1 to 9 ones or zeros."""
+    cases = []
+    for gap in range(10):
+        one, two = HEARD[gap % 7], HEARD[(gap + 3) % 7]
+        for bit in (0, 1):
+            cases.append(lines.hear(run_of(bits_of(one) + [bit] * gap + bits_of(two), gap // 2 % 2)))
+    cases += [lines.hear(run_of(bits_of(P, P, Q), 1)), lines.hear(run_of(bits_of(T, N, T, N), 0)),
+              lines.hear(run_of(bits_of(*HEARD), 0))]
+    return cases
+
+
+def faulty_runs():
+    """A run that lacks a level, has one twice or turned, or has its wires swapped, and a good frame behind it."""
+    cases = []
+    for octets in HEARD:
+        for first in (0, 1):
+            cases.append(lines.hear(levels_of(bits_of(octets), first)))
+    run = run_of(bits_of(HEARD[6]), 1)
+    for at in (0, 1, 2, 8, 9, 10, 17, 63, 64, 65, 100, 120, 121, 127, 128):
+        lacking, doubled = run[:at] + run[at + 1:], run[:at + 1] + run[at:]
+        level_turned = run[:at] + [1 - run[at]] + run[at + 1:]
+        for faulty in (lacking, doubled, level_turned):
+            cases += [lines.hear(faulty), lines.hear(swapped(faulty))]
+        cases.append(lines.hear(level_turned + levels_of(bits_of(Q), level_turned[-1])))
+        cases.append(lines.hear(lacking + levels_of(bits_of(P), lacking[-1])))
+    return cases
+
+
+def turned_runs():
+    """Each frame bit turned, on the line."""
+    octets = image(FIRST["S4+"], SECOND["S5"])
+    return [lines.hear(run_of(bits_of(turned(octets, n)), n % 2)) for n in range(1, 129)]
+
+
+def cut_runs():
+    """Runs cut short at every place up to 20 and many behind it, so that the state after each is told."""
+    run = run_of(bits_of(HEARD[4], T), 0)
+    cases = [lines.hear(run[:length]) for length in (*range(0, 21), *range(23, 129, 7), *range(125, 140), 200, 256,
+                                                     257)]
+    cases += [lines.hear(swapped(run[:length])) for length in (1, 2, 3, 9, 10, 60, 127, 128, 129, 130)]
+    return cases
+
+
+def resumed():
+    """Receivers whose state is given by hand."""
+    cases = []
+    ones, stream = bytes([255]) * 16, Stream(5)
+    for octets in HEARD:
+        bits = bits_of(octets)
+        lacking_one = link1.octets_of([1] + bits[:127])
+        lacking_nine = link1.octets_of([0] * 9 + bits[:119])
+        for last in (0, 1):
+            cases += [lines.resume(1, last, lacking_one, levels_of(bits[127:], last)),
+                      lines.resume(1, last, lacking_one, [last]),
+                      lines.resume(1, last, lacking_nine, levels_of(bits[119:], last)),
+                      lines.resume(1, last, ones, levels_of(bits, last)),
+                      lines.resume(0, last, ones, levels_of(bits, last)),
+                      lines.resume(0, last, ones, run_of(bits, last)),
+                      lines.resume(1, last, octets, []), lines.resume(1, last, octets, [1 - last]),
+                      lines.resume(1, last, octets, [last]), lines.resume(1, last, octets, [2, 255]),
+                      lines.resume(0, last, lacking_one, [1 - last, last])]
+    for last in (0, 1, 2, 7, 48, 128, 254, 255):
+        for started in (0, 1):
+            window = stream.octets(16)
+            cases += [lines.resume(started, last, window, []), lines.resume(started, last, window, [0]),
+                      lines.resume(started, last, window, [1]), lines.resume(started, last, window, [last, 3]),
+                      lines.resume(started, last, window, [0, 0, 1, 1, 1, 0])]
+            lacking_one = link1.octets_of([1] + bits_of(P)[:127])
+            cases += [lines.resume(started, last, lacking_one, [0]), lines.resume(started, last, lacking_one, [1])]
+    cases += [lines.resume(0, last, octets, [level]) for octets in (P, N) for last in (0, 1, 9) for level in (0, 1, 2)]
+    cases += [lines.resume(1, 0, b"\x00" * 16, levels_of(bits_of(Q)[8:], 0)),
+              lines.resume(1, 1, b"\x00" * 16, [1] * 20), lines.resume(1, 1, ones, levels_of(bits_of(Q)[1:], 1))]
+    return cases
+
+
+# 01 'Orders of checks', search.
+
+def capture_of(bits, filler=1):
+    """These bits as octets, the last filled up."""
+    return link1.octets_of(bits + [filler] * (-len(bits) % 8))
+
+
+def aligned_captures():
+    """A frame at each alignment behind ones and behind zeros, searched from around it and from around the end."""
+    cases = []
+    for before in range(0, 17):
+        bits = bits_of(HEARD[before % 7])
+        for bit in (0, 1):
+            capture = capture_of([bit] * before + bits, bit)
+            starts = {0, max(before - 1, 0), before, before + 1, 8 * len(capture) - 128, 8 * len(capture) - 127,
+                      8 * len(capture), 8 * len(capture) + 1}
+            cases += [lines.search(start, capture) for start in sorted(starts)]
+    return cases
+
+
+def two_frame_captures():
+    """Two frames in a capture, searched from around each of them."""
+    cases = []
+    for gap in range(0, 10):
+        one, two = HEARD[(gap + 1) % 7], HEARD[gap % 7]
+        capture = capture_of([1] * gap + bits_of(one) + [gap % 2] * gap + bits_of(two))
+        second = 2 * gap + 128
+        cases += [lines.search(start, capture) for start in (0, gap, gap + 1, second - 1, second, second + 1)]
+    return cases
+
+
+def damaged_captures():
+    """A damaged frame before a good one, frames that lack a bit, a frame at the very end, a frame in noise."""
+    cases = []
+    for n in (*FRAMING, 10, 15, 16, 60, 64, 66, 119, 120):
+        cases.append(lines.search(0, turned(P, n) + Q))
+    for lacking in range(1, 9):
+        cases += [lines.search(0, capture_of([1] * lacking + bits_of(P))[:16]),
+                  lines.search(0, link1.octets_of([1] * (8 - lacking) + bits_of(P) + [1] * lacking)[:16]),
+                  lines.search(0, link1.octets_of([0] * (8 - lacking) + bits_of(Q) + [1] * lacking))]
+    stream = Stream(6)
+    for number in range(40):
+        noise = [stream.below(2) for _ in range(8 + stream.below(100))]
+        bits = noise + bits_of(stream.good_image())
+        tail = [stream.below(2) for _ in range((-len(bits)) % 8 + 8 * (number % 3))]
+        capture = link1.octets_of(bits + tail)
+        cases += [lines.search(start, capture) for start in (0, len(noise), len(noise) + 1)]
+    return cases
+
+
+def plain_captures():
+    """Captures of 0 to 40 octets that are all zeros, all ones or FE."""
+    return [lines.search(0, bytes([octet]) * length) for octet in (0x00, 0xff, 0xfe) for length in range(41)]
+
+
+def long_captures():
+    """Captures up to the longest and one octet beyond it, starts up to the farthest."""
+    longest = bytes([255]) * 65520
+    cases = [lines.search(524000, longest + P), lines.search(524160, longest + P), lines.search(524161, longest + P),
+             lines.search(524288, longest + P), lines.search(524289, longest + P), lines.search(0, P + longest),
+             lines.search(1, P + bytes(65520)), lines.search(0, bytes(8) + P + longest[:65512]),
+             lines.search(0, P + longest + b"\xff"), lines.search(524297, P + longest + b"\xff"),
+             lines.search(2 ** 40, P + longest + b"\x00"), lines.search(524290, bytes(65537)),
+             lines.search(0, bytes(65664)), lines.search(524288, bytes(65536)), lines.search(524289, bytes(65536)),
+             lines.search(524200, bytes(65536)), lines.search(524279, longest + Q[:15]),
+             lines.search(524152, longest[1:] + Q), lines.search(0, bytes(3000))]
+    for start in (17, 255, 256, 257, 65535, 65536, 65537, 524288, 524289, 2 ** 32, 2 ** 32 + 128, 2 ** 40 - 1, 2 ** 40):
+        cases += [lines.search(start, b""), lines.search(start, P), lines.search(start, T + N)]
+    return cases
+
+
+# 01 'The shift'.
+
+STEPS = (-4096, -4095, -2, -1, 0, 1, 2, 4094, 4095)
+AROUND = (0, 1, 374, 375, 376, 749, 750, 1124, 1125, 1126)
+OFFSETS = tuple(-offset for offset in AROUND[:0:-1]) + AROUND
+
+
+def track(number, **fields):
+    """A message with a position, of one kind after the other."""
+    return message(TRACK_KINDS[number % 4], number=20311 + number, quality=number // 4 % 4, **fields)
+
+
+def shifts_around_steps():
+    """Around each half step from the steps at the edges and about zero: X alone, Y alone, both."""
+    cases = []
+    for at, step in enumerate(STEPS):
+        for number, offset in enumerate(OFFSETS):
+            turn, other = at + number, STEPS[(at + 4) % 9]
+            cases += [lines.shift(track(turn, x=step, y=other), [offset], []),
+                      lines.shift(track(turn, x=other, y=step), [], [offset])]
+            if number % 3 == 0:
+                cases.append(lines.shift(track(turn, x=step, y=STEPS[8 - at]), [offset], [-offset]))
+                cases.append(lines.shift(track(turn, x=step, y=STEPS[(at + 1) % 9]), [offset],
+                                         [OFFSETS[(number + 7) % len(OFFSETS)]]))
+    return cases
+
+
+def shifts_by_lists():
+    """Lists of every length, sums whose parts would round otherwise, sums that pass far beyond and come back."""
+    cases = []
+    for length in (*range(0, 10), 16):
+        offsets = [(-1) ** place * (300 + 17 * place) for place in range(length)]
+        cases += [lines.shift(track(length, x=7, y=-7), offsets, []),
+                  lines.shift(track(length, x=7, y=-7), [], offsets),
+                  lines.shift(track(length, x=-100, y=100), offsets, offsets[:8]),
+                  lines.shift(track(length, x=-100, y=100), offsets[:8], offsets),
+                  lines.shift(track(length, x=0, y=0), [375] * length, [-375] * length)]
+    far = 6144000
+    lists = ([400, 400], [-400, -400], [100] * 4, [-100] * 4, [1] * 8, [374, 1], [-374, -1], [47] * 8, [-47] * 8,
+             [376, -1], [-376, 1], [far, far, -far, -far], [-far, -far, far, far, 375], [far] * 4 + [-far] * 4,
+             [-far] * 4 + [far] * 4, [far, -far, -750], [far] * 8, [-far] * 8,
+             [far, far, far, -far, -far, -far, 374, 1], [5000, -1, -6000, 250, 375, -3000], [1500, -1500, 1125],
+             [0] * 8)
+    for number, offsets in enumerate(lists):
+        for step in (0, 1, -1, 4095, -4096):
+            cases += [lines.shift(track(number, x=step, y=55), offsets, [750]),
+                      lines.shift(track(number, x=-66, y=step), [-750], offsets)]
+    return cases
+
+
+def shift_limits():
+    """Offsets at their limits and beyond in each place of a list, and shifts across the whole range."""
+    cases = []
+    beyond = (6144000, 6144001, -6144000, -6144001, 2147483647, -2147483648, 10000000, -10000000)
+    for number, offset in enumerate(beyond):
+        for length, at in ((1, 0), (3, 0), (3, 1), (3, 2), (8, 0), (8, 4), (8, 7)):
+            offsets = [0] * length
+            offsets[at] = offset
+            if length > 1:
+                offsets[at - 1] = -6144000 if offset > 0 else 6144000
+            given = track(number, x=3, y=4)
+            cases += [lines.shift(given, offsets, []), lines.shift(given, [], offsets)]
+    for offsets in ([-2147483648, -2147483648], [2147483647, 2147483647, 2], [6144001, -6144001], [-6144001, 6144001]):
+        cases += [lines.shift(track(0, x=5, y=6), offsets, []), lines.shift(track(0, x=5, y=6), [], offsets)]
+    for start, offset in ((-4096, 6144000), (-4096, 6143250), (-4096, 6143624), (-4096, 6143625), (4095, -6143250),
+                          (4095, -6143624), (4095, -6143625), (4095, -6144000), (0, 3071250), (0, 3071624),
+                          (0, 3071625), (0, -3072000), (0, -3072374), (0, -3072375), (0, 3072000), (2000, -4500000),
+                          (-2000, 4500374)):
+        cases += [lines.shift(track(1, x=start, y=1), [offset], []), lines.shift(track(2, x=2, y=start), [], [offset])]
+    stream = Stream(7)
+    for number in range(60):
+        steps = [stream.below(8192) - 4096 for _ in range(2)]
+        lists = [[stream.below(2000000) - 1000000 for _ in range(stream.below(6))] for _ in range(2)]
+        cases.append(lines.shift(track(number, x=steps[0], y=steps[1]), *lists))
+    return cases
+
+
+def shift_contents():
+    """Every kind shifted; every content that is refused in a message with a position."""
+    cases = []
+    for kind in link1.KINDS:
+        given = FIRST.get(kind) or SECOND[kind]
+        cases += [lines.shift(given, x_offsets, y_offsets)
+                  for x_offsets, y_offsets in (([750], [-1500]), ([], []), ([2147483647], [1] * 9))]
+    for kind in TRACK_KINDS:
+        for word, value in (("number", 32767), ("number", 32768), ("number", 65535), ("quality", 3), ("quality", 4),
+                            ("quality", 255), ("x", 4095), ("x", 4096), ("x", 32767), ("x", -4096), ("x", -4097),
+                            ("x", -32768), ("y", 4095), ("y", 4096), ("y", 32767), ("y", -4096), ("y", -4097),
+                            ("y", -32768)):
+            cases.append(lines.shift(message(kind, **{word: value}), [0], [1, -1]))
+    cases += [lines.shift(message("S4", x=4096), [-750], []), lines.shift(message("S8", y=-4097), [], [750])]
+    cases += [lines.shift(given, [750], []) for given in (message("S3", request=1), message("S5", strength=1),
+                                                          message("S6", elevation=15))]
+    return cases
+
+
+def order_of_shifting():
+    """Shifting: every two faults, and all from each on, told as the first, and the message stays."""
+    faults = ("11", "8", "2 X", "2 Y", "9 X offset", "9 Y offset", "9 X result", "9 Y result")
+    chosen = [[fault] for fault in faults] + [[one, two] for at, one in enumerate(faults) for two in faults[at + 1:]]
+    chosen += [faults[at:] for at in range(len(faults) - 2)]
+    cases = []
+    for number, some in enumerate(chosen):
+        offsets = {}
+        for axis in "XY":
+            offsets[axis] = [375 if "9 %s result" % axis in some else 1]
+            if "9 %s offset" % axis in some:
+                offsets[axis] = [6144001] + offsets[axis]
+            if "2 %s" % axis in some:
+                offsets[axis] = offsets[axis] + [0] * (9 - len(offsets[axis]))
+        given = track(number, x=4095, y=4095)
+        if "8" in some:
+            given = changed(given, quality=5)
+        if "11" in some:
+            given = message("S5", strength=1) if "8" in some else message("S6", age=3)
+        cases.append(lines.shift(given, offsets["X"], offsets["Y"]))
+    return cases
+
+
+# 01 'Messages', altitude and track number text.
+
+def altitudes():
+    """The feet at each step and around each half step, and far beyond."""
+    cases = []
+    for step in range(-1, 514):
+        cases += [lines.altitude(375 * step + feet) for feet in (0, 186, 187, 188, 189)]
+    return cases + [lines.altitude(feet) for feet in (
+        -2147483648, -2147483647, -1000000, -376, -2, -1, 1, 2, 374, 376, 191624, 191625, 191626, 191811, 191814,
+        200000, 245760, 16777216, 1073741823, 1073741824, 1431655765, 2147483000, 2147483459, 2147483460, 2147483646,
+        2147483647)]
+
+
+def text_characters():
+    """Each octet in each place of a track number's text."""
+    cases = []
+    for place in range(5):
+        for octet in range(256):
+            text = bytearray(b"GK352")
+            text[place] = octet
+            cases.append(lines.track_number(bytes(text)))
+    return cases
+
+
+def texts():
+    """Each value of each place, other numbers and lengths, and what is refused, of track number text."""
+    cases = []
+    for place in range(5):
+        for value in range(8):
+            for number in (value * 8 ** place, 0o52743 - 0o52743 // 8 ** place % 8 * 8 ** place + value * 8 ** place):
+                cases.append(lines.track_text(number, LENT[:5]))
+    for at in range(15):
+        cases += [lines.track_text(2 ** at, LENT[:5]), lines.track_text(32767 - 2 ** at, LENT[:5])]
+    for number in (32768, 32769, 37971, 40000, 65534, 65535):
+        cases += [lines.track_text(number, buffer) for buffer in (LENT[:5], b"KLMNO", LENT[:4])]
+    for length in range(9):
+        cases += [lines.track_text(5203, LENT[:length]), lines.track_text(5203, b"abcdefgh"[:length]),
+                  lines.track_text(32768, LENT[:length]), lines.track_number(b"EG123456"[:length]),
+                  lines.track_number(b"B?!99999"[:length])]
+    cases += [lines.track_text(32768, b"ab de"), lines.track_text(32768, b"!~!~!"),
+              lines.track_text(32768, b"abcd\x7f"), lines.track_text(65535, b"abcd\x80")]
+    cases += [lines.track_number(text, ["=" + text.decode("ascii")]) for text in (
+        b"EG123", b"GE321", b"AM076", b"MA670", b"HJ345", b"KL501", b"eg123", b"EG128", b"E1123", b"EGA23", b"IO000",
+        b"CD111", b"AA00", b"AA0000", b"EG1*3", b"12EGH", b"00000", b"AAAAA")]
+    cases += [lines.track_number(b"EG123", ["=EG", "x313233"]), lines.track_number(b"AA111", ["x41*2", "x31*3"]),
+              lines.track_number(b"AA111", ["x", "=AA", "x", "x3131*2"])]
+    return cases
+
+
+# How lines are written.
+
+def other_writings():
+    """Octets written in other ways, notes and empty lines."""
+    cases = [lines.verdict(T, ["x00", "xba*14", "xff"]), lines.verdict(T, ["x00ba*14", "xff"]),
+             lines.verdict(b"", ["x"]), lines.verdict(T, ["x" + T.hex()]), lines.verdict(N, [":0", "x80*14", "xff*1"]),
+             lines.verdict(b"", ["x", "x"]), lines.verdict(b"0123456789abcdef", ["=0123456789abcdef"]),
+             lines.verdict(bytes(16), [":0*16"]), lines.verdict(bytes(16), ["x00*8", ":0*7", ":0"]),
+             lines.verdict(bytes(65664), ["x00*65664"]), lines.verdict(bytes(65664), ["x00*65663", ":0"]),
+             lines.verdict(bytes(8183), [":" + "0" * 8183])]
+    cases += [("hear :0011 =01 :9", lines.heard(link1.FRESH, [0, 0, 1, 1, 48, 49, 9])),
+              ("hear :01*3 x00*2", lines.heard(link1.FRESH, [0, 1, 1, 1, 0, 0])),
+              ("hear", lines.heard(link1.FRESH, [])), ("hear x", lines.heard(link1.FRESH, [])),
+              ("close S0 S0", "2 0 x"), ("open", "2 0"), ("verdict", "2 0"), ("send 0 0", "2 0 :"),
+              ("track_text 7", "2 0 x"), ("track_number", "2 0"), ("search 0", "10 0"), ("search 1099511627776", "9 0")]
+    cases += [("", ""), ("", "")]
+    cases += [(text, text) for text in ("#", "##", "#note", "# two  spaces and one at the end ", "# verdict x00",
+                                        "#\x00\x01\t\r\x7f\x80\xc3\xa9\xff odd octets")]
+    return cases
+
+
+def odd_numbers():
+    """Numbers that are not written as they would be printed, or are too large for their type."""
+    words = ["01", "00", "-0", "+1", "-", "+", "1.0", "0x1", "1e0", "one", "--1", "1-", "-01", "1,0", "'1'", "\xb2",
+             "1_0", "99999999999999999999999999", "-99999999999999999999999999", "18446744073709551617",
+             "1099511627777"]
+    texts = ["kind_named " + word for word in words + ["256", "-1"]]
+    texts += ["altitude " + word for word in words + ["2147483648", "-2147483649", "4294967297", "00375"]]
+    texts += ["search %s x00" % word for word in words + ["-1", "18446744073709551616"]]
+    texts += ["send %s 128 x00" % word for word in words + ["-1", "256"]]
+    texts += ["send 0 %s x00" % word for word in words + ["-1", "257"]]
+    texts += ["resume %s 0 x00*16" % word for word in words + ["-1", "2", "255"]]
+    texts += ["resume 0 %s x00*16" % word for word in words + ["-1", "256"]]
+    texts += ["track_text %s x00*5" % word for word in words + ["-1", "65536"]]
+    texts += ["refusal_of " + word for word in words + ["-1", "256"]]
+    texts += ["refusal_at %s 1" % word for word in words[:4] + ["-1", "256"]]
+    texts += ["refusal_at 1 %s" % word for word in words[:4] + ["-1", "256"]]
+    texts += ["shift S4 number 1 quality 1 x 1 y 1 by %s and" % word for word in words + ["2147483648", "-2147483649"]]
+    texts += ["shift S4 number 1 quality 1 x 1 y 1 by and %s" % word for word in words + ["2147483648", "-2147483649"]]
+    texts += ["hear :0*" + word for word in words + ["0", "-1", "65665", ""]]
+    return [lines.not_understood(text) for text in texts]
+
+
+def wrong_numbers(kind, word):
+    """Numbers that the call cannot be given in this field."""
+    if word in link1.SIGNED:
+        return "-32769", "32768"
+    if word in ("emergency", "validation", "simulated", "drop", "acquisition"):
+        return "-1", "2", "01"
+    if word in WIDE or word == "number" and kind != "S6":
+        return "-1", "65536", "01"
+    return "-1", "256", "01"
+
+
+def odd_messages():
+    """Messages with a word or number that is wrong, a part missing or too many."""
+    texts = []
+    for kind in ("S3", "S4", "S4+", "S5", "S6", "S8", "S8+"):
+        words = lines.message_words(FIRST.get(kind) or SECOND[kind]).split()
+        texts += [" ".join(words[:length]) for length in range(1, len(words))] + [" ".join(words + ["0"])]
+        for at in range(1, len(words), 2):
+            for wrong in wrong_numbers(kind, words[at]):
+                texts.append(" ".join(words[:at + 1] + [wrong] + words[at + 2:]))
+            texts.append(" ".join(words[:at] + [words[at] + "s"] + words[at + 1:]))
+            if words[at] not in link1.PRESENCE:
+                texts.append(" ".join(words[:at + 1] + ["absent"] + words[at + 2:]))
+        texts.append(" ".join(words[:1] + words[3:5] + words[1:3] + words[5:]))
+    texts += ["", "S9", "S.4", "s4 number 0 quality 0 x 0 y 0", "S4 number 0 quality 0 y 0 x 0", "Blank 0", "S0 S0",
+              "blank", "S3 mode3a Absent request 0 emergency 0 validation 0 mode1 absent mode2 absent",
+              "S4+number 0 quality 0 x 0 y 0", "S5+ altitude 0", "Blank Blank"]
+    return [lines.not_understood("kind_of" + (" " + text if text else "")) for text in texts]
+
+
+def odd_lines():
+    """Lines that are not understood for other reasons; the program goes on behind each."""
+    s4 = "S4 number 1 quality 1 x 1 y 1"
+    texts = ["hello", "Verdict x00", "VERDICT x00", "verdicts x00", "verdictx00", "openx00", "?", "0", " ", "  ",
+             " verdict x00", "verdict x00 ", "verdict  x00", "verdict x00  x00", " # a note with a space before it",
+             "label", "label S4 S4", "label S9", "label S.4", "label s4", "label 17", "label Blank ", "kind_named",
+             "kind_named 1 2", "kind_named x01", "kind_of", "numbers 0", "numbers ", "Numbers", "altitude",
+             "altitude 1 2", "altitude  1", "altitude x01", "refusal_of", "refusal_of 1 1", "refusal_at",
+             "refusal_at 1", "refusal_at 1 2 3", "send", "send 0", "send x00", "resume", "resume 0", "resume 0 0",
+             "resume 0 0 x", "resume 0 0 x00*15", "resume 1 1 x00*14 :0", "search", "search x00", "search :0 x00",
+             "track_text", "track_text x00", "track_number EG123", "track_number =EG1 23", "close", "close S0",
+             "close " + s4, "close S0 x00*16", "close x00*16", "close S0 S0 S0 x00*16", "close S0 S9 x00*16", "open S0",
+             "verdict 00", "verdict 0", "verdict x0", "verdict x000", "verdict xBA", "verdict xbA", "verdict x0g",
+             "verdict x 00", "verdict x00,00", "verdict X00", "verdict x00:0", "verdict :0x00", "verdict :a",
+             "verdict :0-", "verdict :-1", "verdict :0*2*2", "verdict x00*2x00", "verdict *3", "verdict x*3",
+             "verdict x00*", "verdict x00* 3", "verdict x00 *3", "verdict x00*3 *3", "verdict x00*65664 x00",
+             "verdict x00 x00*65664", "verdict x00*65665", "hear x00*40000 :1*25665", "hear 01", "hear :01 2",
+             "track_text 1 x00*65664 x00", "search 0 x00*65664 :0", "close S0 S0 x00*65665", "verdict ::0",
+             "verdict xx00", "shift", "shift " + s4, "shift %s by" % s4, "shift %s and" % s4, "shift %s 1 and 1" % s4,
+             "shift %s by 1" % s4, "shift %s by 1 and 2 and" % s4, "shift %s by by 1 and" % s4,
+             "shift %s and 1 by 1" % s4, "shift %s By 1 and" % s4, "shift %s by 1 And" % s4, "shift by 1 and 1",
+             "shift S4 by and", "shift %s by 1 and x01" % s4, "shift %s by%s and" % (s4, " 1" * 17),
+             "shift %s by and%s" % (s4, " 1" * 17), "shift S0 S0 by and", "\x00", "\x00\x00", "\xff\xfe", "\x7f",
+             "\xc3\xa9", "\xe2\x82\xac 1", "verdict\tx00", "\tverdict x00", "verdict x00\r", "verdict\x00x00",
+             "verdict x00\x00", "label S4\x00", "label S4\r", "hear :0\x7f1", "hear :0\xff", "numbers\x00", "numbers\r",
+             "altitude 1\x0b", "altitude \xb2", "\r", "\x1a", "\x1b[0m", "label S4\xa0", "kind_named\xa01",
+             "verdict :" + "0" * 8184, "x" * 8193, "numbers" + " " * 8186]
+    cases = []
+    for number, text in enumerate(texts):
+        cases.append(lines.not_understood(text))
+        if number % 8 == 7 or len(text) > 8000:
+            cases.append(lines.label(link1.KINDS[number % 9]))
+    return cases
+
+
+def last_line():
+    """A last line without line feed."""
+    return [lines.verdict(Q)]
+
+
+GROUPS = (examples, names, pairs_closed, pairs_opened, labels_opened, whole_messages, random_messages, fields_whole,
+          field_bits_closed, bits_opened, bits_missing, field_ranges, codes, small_numbers, signed_patterns,
+          test_message, blank_message, modes_opened, modes_closed, spare_bits, frame_bits, check_bits, octets_judged,
+          lengths, order_of_opening, order_of_closing, order_of_sending, sending, frames_heard, noise_heard,
+          false_locks, refused_levels, frames_in_turn, faulty_runs, turned_runs, cut_runs, resumed, aligned_captures,
+          two_frame_captures, damaged_captures, plain_captures, long_captures, shifts_around_steps, shifts_by_lists,
+          shift_limits, shift_contents, order_of_shifting, altitudes, text_characters, texts, other_writings,
+          odd_numbers, odd_messages, odd_lines, last_line)
+
+
+def all_cases():
+    """Every case: an empty line, the note and the cases of each group."""
+    cases = []
+    for group in GROUPS:
+        if cases:
+            cases.append(("", ""))
+        cases.append(lines.note(group.__doc__))
+        cases += group()
+    return cases
+
+
+def replay_files():
+    """The lines and their answers as octets; the last line of the input has no line feed."""
+    cases = all_cases()
+    calls = "\n".join(call for call, _ in cases)
+    answers = "".join(answer + "\n" for _, answer in cases)
+    return calls.encode("latin-1"), answers.encode("latin-1")

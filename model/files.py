@@ -1,0 +1,13 @@
+"""The files that the model makes: path from the root, and octets."""
+
+import os
+
+import cases
+import listings
+
+TREE = os.path.dirname(os.path.dirname(os.path.abspath(__file__)))
+
+
+def made_files():
+    calls, answers = cases.replay_files()
+    return [("crates/replay/stdin", calls), ("crates/replay/stdout", answers)] + listings.listed_files()

@@ -1,0 +1,173 @@
+"""Calls and their answers as lines of text. A case is a call's line and its answer's line."""
+
+import link1
+
+
+def octet_part(octets):
+    return "x" + bytes(octets).hex()
+
+
+def digit_part(octets):
+    return ":" + "".join(str(octet) for octet in octets)
+
+
+def runs_of(octets):
+    """Each octet with the number of times that it stands in turn."""
+    runs = []
+    for octet in octets:
+        if runs and runs[-1][0] == octet:
+            runs[-1][1] += 1
+        else:
+            runs.append([octet, 1])
+    return runs
+
+
+def octet_parts(octets, shape=octet_part):
+    """The parts that write these octets; a long run of one octet ends a part with *N."""
+    parts, waiting = [], []
+    for octet, times in runs_of(octets):
+        if times < 6:
+            waiting += [octet] * times
+        else:
+            parts.append("%s*%d" % (shape(waiting + [octet]), times))
+            waiting = []
+    if waiting:
+        parts.append(shape(waiting))
+    return parts
+
+
+def level_parts(levels):
+    """Levels up to 9 as decimal digits, the others in hexadecimal."""
+    parts, waiting = [], []
+    for level in levels:
+        if waiting and (level > 9) != (waiting[-1] > 9):
+            parts += octet_parts(waiting, octet_part if waiting[0] > 9 else digit_part)
+            waiting = []
+        waiting.append(level)
+    if waiting:
+        parts += octet_parts(waiting, octet_part if waiting[0] > 9 else digit_part)
+    return parts
+
+
+def text_part(octets):
+    if octets and all(33 <= octet <= 126 for octet in octets):
+        return "=" + octets.decode("ascii")
+    return octet_part(octets)
+
+
+def message_words(message):
+    kind, fields = message
+    words = [kind]
+    for word, _, _ in link1.FIELDS[kind]:
+        words += [word, "absent" if fields[word] is None else str(fields[word])]
+    return " ".join(words)
+
+
+def line(*parts):
+    return " ".join(str(part) for part in parts)
+
+
+def answer(number_and_place, *parts):
+    return line(*number_and_place, *parts)
+
+
+def verdict(octets, written=None):
+    return line("verdict", *(written or octet_parts(octets))), answer(link1.verdict(octets))
+
+
+def open_image(octets):
+    result, pair = link1.open_image(octets)
+    messages = [message_words(message) for message in pair] if pair else []
+    return line("open", *octet_parts(octets)), answer(result, *messages)
+
+
+def close_pair(first, second, buffer):
+    result, after = link1.close_pair(first, second, buffer)
+    return (line("close", message_words(first), message_words(second), *octet_parts(buffer)),
+            answer(result, octet_part(after)))
+
+
+def kind_of(message):
+    return line("kind_of", message_words(message)), message[0]
+
+
+def label(kind):
+    return line("label", kind), str(link1.LABELS[kind])
+
+
+def kind_named(number):
+    result, kind = link1.kind_named(number)
+    return line("kind_named", number), answer(result, *([kind] if kind else []))
+
+
+def send(previous, length, image):
+    result, after = link1.send(previous, image, bytes([5]) * length)
+    return line("send", previous, length, *octet_parts(image)), answer(result, digit_part(after))
+
+
+def heard(state, levels):
+    """The answer to a run of levels: what is not silent, then the state."""
+    parts = []
+    for number, level in enumerate(levels, 1):
+        state, (result, handed, image) = link1.hear(state, level)
+        if result != link1.GOOD or handed == 1:
+            parts += ["at", number, *result, handed, octet_part(image)]
+    started, last, window = state
+    return line(*parts, "state", started, last, octet_part(link1.image_of(window)))
+
+
+def hear(levels):
+    return line("hear", *level_parts(levels)), heard(link1.FRESH, levels)
+
+
+def resume(started, last, window, levels):
+    state = (started, last, tuple(link1.image_frame(window)))
+    return line("resume", started, last, *octet_parts(window), *level_parts(levels)), heard(state, levels)
+
+
+def search(start, capture):
+    result, position = link1.search(capture, start)
+    return (line("search", start, *octet_parts(capture)),
+            answer(result, *([position] if result == link1.GOOD else [])))
+
+
+def shift(message, x_offsets, y_offsets):
+    result, after = link1.shift(message, x_offsets, y_offsets)
+    return (line("shift", message_words(message), "by", *x_offsets, "and", *y_offsets),
+            answer(result, message_words(after)))
+
+
+def altitude(feet):
+    result, steps = link1.altitude(feet)
+    return line("altitude", feet), answer(result, *([steps] if result == link1.GOOD else []))
+
+
+def track_number(text, written=None):
+    result, number = link1.track_number(text)
+    return (line("track_number", *(written or octet_parts(text))),
+            answer(result, *([number] if result == link1.GOOD else [])))
+
+
+def track_text(number, buffer):
+    result, after = link1.track_text(number, buffer)
+    return line("track_text", number, *octet_parts(buffer)), answer(result, text_part(after))
+
+
+def refusal_of(number):
+    return line("refusal_of", number), line(number, 0)
+
+
+def refusal_at(number, place):
+    return line("refusal_at", number, place), line(number, place)
+
+
+def numbers():
+    return "numbers", line(*link1.NUMBERS)
+
+
+def note(text):
+    return "# " + text, "# " + text
+
+
+def not_understood(text):
+    return text, "?"

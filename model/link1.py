@@ -1,0 +1,327 @@
+"""Link 1 read by bit numbers: 01 is the scope paper, 001 is ATDLP-5.01.
+
+The bits of a message are a dict from bit number 1 to 49, those of a frame a list from 1 to 128 (entry 0 is not used).
+A message is its kind and a dict from each field's word to its number; an absent mode is None.
+Every answer begins with the number and the place, (0, 0) for success.
+"""
+
+GOOD = (0, 0)
+
+# 01 'Numbers a caller may get back', success first.
+NUMBERS = (0, 1, 2, 3, 4, 5, 6, 7, 8, 9, 10, 11)
+
+# 01 'On board and left ashore'.
+KINDS = ("Blank", "S0", "S3", "S4", "S4+", "S5", "S6", "S8", "S8+")
+
+# 01 'Messages', labels as numbers; 001 Annex A Appendix 5 Table A5-1 writes them in octal: 00 56 23 21 61 22 24 25 65.
+LABELS = {"Blank": 0, "S0": 46, "S3": 19, "S4": 17, "S4+": 49, "S5": 18, "S6": 20, "S8": 21, "S8+": 53}
+
+# 01 'Messages'; 001 Annex C Appendix 2 Figures C2-5 to C2-8 and C2-10: each field's word, first bit, last bit.
+TRACK_FIELDS = (("number", 7, 21), ("quality", 22, 23), ("x", 24, 36), ("y", 37, 49))
+FIELDS = {
+    "Blank": (), "S0": (), "S4": TRACK_FIELDS, "S4+": TRACK_FIELDS, "S8": TRACK_FIELDS, "S8+": TRACK_FIELDS,
+    "S3": (("mode3a", 9, 20), ("request", 21, 23), ("emergency", 24, 24), ("validation", 28, 28),
+           ("mode1", 31, 35), ("mode2", 38, 49)),
+    "S5": (("altitude", 7, 15), ("strength", 16, 18), ("identification", 19, 22), ("special23", 23, 24),
+           ("simulated", 25, 25), ("drop", 26, 26), ("traffic", 27, 28), ("vx", 29, 36), ("allocation", 37, 38),
+           ("special39", 39, 41), ("vy", 42, 49)),
+    "S6": (("acquisition", 7, 7), ("width", 8, 10), ("strobe_type", 11, 12), ("simulated", 13, 13),
+           ("azimuth", 14, 25), ("site", 26, 31), ("sensor", 32, 34), ("number", 35, 39), ("elevation", 40, 43),
+           ("age", 44, 49)),
+}
+
+# 01 'Messages': X, Y and the velocities are two's complement; 001 Annex C Appendix 3 paragraphs 6.4, 6.5, 7.9, 7.12.
+SIGNED = ("x", "y", "vx", "vy")
+
+# 01 'Messages', S.3: the presence bit of each mode; 001 Annex C Appendix 3 paragraph 5.6.
+PRESENCE = {"mode1": 25, "mode2": 26, "mode3a": 27}
+
+# 01 'Messages', S.3: spare bits; 001 Annex C Appendix 5 Table C5-1 (no other kind here has any).
+SPARE = (7, 8, 29, 30, 36, 37)
+
+# 01 'Messages': codes that are not used; 001 Annex C Appendix 3 paragraphs 5.4, 7.3, 8.10.
+NOT_USED = {"request": (1, 3, 5, 6, 7), "strength": (1,), "elevation": (13, 14, 15)}
+
+# 01 'Which pairs may share a frame'; 001 Annex B Appendix 1 paragraph 3 (Table B2-1 also has Blank with Blank).
+# Second:   Blank S0 S3 S4 S4+ S5 S6 S8 S8+
+PAIRS = {
+    "Blank": "- - - - - - - - -",
+    "S0":    "- X - - - - - - -",
+    "S3":    "- - - - - - - - -",
+    "S4":    "X - - X - - X X -",
+    "S4+":   "- - X - - X - - -",
+    "S5":    "- - - - - - - - -",
+    "S6":    "X - - X - - X X -",
+    "S8":    "X - - X - - X X -",
+    "S8+":   "- - X - - X - - -",
+}
+
+def pair_is_legal(first, second):
+    return PAIRS[first].split()[KINDS.index(second)] == "X"
+
+def kind_named(label):
+    """01 'On board': other labels are refused 6."""
+    named = [kind for kind in KINDS if LABELS[kind] == label]
+    return (GOOD, named[0]) if named else ((6, 0), None)
+
+# 01 'Messages': in a field the lowest bit number weighs least; 001 Annex A Appendix 4 paragraph 17.
+def read_bits(bits, first, last):
+    return sum(bits[n] * 2 ** (n - first) for n in range(first, last + 1))
+
+def write_bits(bits, first, last, value):
+    for n in range(first, last + 1):
+        bits[n] = value // 2 ** (n - first) % 2
+
+# 001 Annex A Appendix 4 paragraph 18, two's complement: the last bit is the sign; 01: alone it is the lowest value.
+def read_field(bits, word, first, last):
+    value = read_bits(bits, first, last)
+    if word in SIGNED and bits[last] == 1:
+        return value - 2 ** (last - first + 1)
+    return value
+
+def write_field(bits, word, first, last, value):
+    if word in SIGNED and value < 0:
+        value = value + 2 ** (last - first + 1)
+    write_bits(bits, first, last, value)
+
+def field_range(word, first, last):
+    values = 2 ** (last - first + 1)
+    if word in SIGNED:
+        return -values // 2, values // 2 - 1
+    return 0, values - 1
+
+def content_is_good(message):
+    """01 'Orders of checks', close: a number too wide for its field is content; so is a code that is not used."""
+    kind, fields = message
+    for word, first, last in FIELDS[kind]:
+        value = fields[word]
+        if value is None:
+            continue
+        lowest, highest = field_range(word, first, last)
+        if value < lowest or value > highest or value in NOT_USED.get(word, ()):
+            return False
+    return True
+
+def message_bits(message):
+    """01 'Messages'; 001 Annex C Appendix 3."""
+    kind, fields = message
+    bits = {n: 0 for n in range(1, 50)}
+    write_bits(bits, 1, 6, LABELS[kind])
+    if kind == "S0":
+        for group in range(1, 7):
+            write_bits(bits, 7 * group + 1, 7 * group + 6, LABELS["S0"])
+    for word, first, last in FIELDS[kind]:
+        if fields[word] is None:
+            continue
+        write_field(bits, word, first, last, fields[word])
+        if word in PRESENCE:
+            bits[PRESENCE[word]] = 1
+    return bits
+
+def bits_are_good(kind, bits):
+    """01 'Messages', what the bits outside the codes must be; 001 Annex A Appendix 4 paragraphs 3, 4, 14."""
+    if kind == "Blank":
+        return all(bits[n] == 0 for n in range(1, 50))
+    if kind == "S0":
+        return all(read_bits(bits, 7 * group + 1, 7 * group + 6) == 46 and bits[7 * group + 7] == 0
+                   for group in range(7))
+    if kind == "S3":
+        if any(bits[n] == 1 for n in SPARE):
+            return False
+        return all(word not in PRESENCE or bits[PRESENCE[word]] == 1 or read_bits(bits, first, last) == 0
+                   for word, first, last in FIELDS["S3"])
+    return True
+
+def read_message(kind, bits):
+    fields = {}
+    for word, first, last in FIELDS[kind]:
+        if word in PRESENCE and bits[PRESENCE[word]] == 0:
+            fields[word] = None
+        else:
+            fields[word] = read_field(bits, word, first, last)
+    return kind, fields
+
+def frame_place(which, n):
+    """01 'From levels to a frame': groups 1 to 7, then 8 to 14; 001 Annex A Appendix 3 Figures A3-1, A3-2."""
+    group = 7 * (which - 1) + (n - 1) // 7 + 1
+    return 8 * group + 2 + (n - 1) % 7
+
+# 01: marks at bits 9, 17, .. 121 and the final one, bit 128; 001 Annex A Appendix 3 paragraph 2.
+MARKS = tuple(range(9, 122, 8)) + (128,)
+
+def check_count(frame, j):
+    """001 Annex A Appendix 3 paragraph 3: the ones in bit j of every group and in check bit j (bit 121 + j)."""
+    return sum(frame[8 * group + 1 + j] for group in range(1, 15)) + frame[121 + j]
+
+def frame_of(first_bits, second_bits):
+    frame = [None] + [0] * 128
+    for n in range(1, 50):
+        frame[frame_place(1, n)] = first_bits[n]
+        frame[frame_place(2, n)] = second_bits[n]
+    for n in MARKS:
+        frame[n] = 1
+    for j in range(1, 7):
+        frame[121 + j] = 1 - check_count(frame, j) % 2
+    return frame
+
+def frame_verdict(frame):
+    """01 'Orders of checks': 3, 4, 5."""
+    if any(frame[n] == 1 for n in range(1, 9)):
+        return 3, 0
+    if any(frame[n] == 0 for n in MARKS):
+        return 4, 0
+    if any(check_count(frame, j) % 2 == 0 for j in range(1, 7)):
+        return 5, 0
+    return GOOD
+
+# 01 'From levels to a frame': bit 1 is in the most significant place of the first octet.
+def octet_bits(octets):
+    return [octet // 2 ** (7 - place) % 2 for octet in octets for place in range(8)]
+
+def octets_of(bits):
+    return bytes(sum(bits[8 * n + place] * 2 ** (7 - place) for place in range(8)) for n in range(len(bits) // 8))
+
+def image_frame(image):
+    return [None] + octet_bits(image)
+
+def image_of(frame):
+    return octets_of(frame[1:])
+
+def verdict(image):
+    """01 'Orders of checks', the frame alone: 2, 3, 4, 5."""
+    if len(image) != 16:
+        return 2, 0
+    return frame_verdict(image_frame(image))
+
+def open_image(image):
+    """01 'Orders of checks': 2, 3, 4, 5, 6 first, 6 second, 7, 8 first, 8 second."""
+    answer = verdict(image)
+    if answer != GOOD:
+        return answer, None
+    frame = image_frame(image)
+    bits = {which: {n: frame[frame_place(which, n)] for n in range(1, 50)} for which in (1, 2)}
+    kinds = {}
+    for which in (1, 2):
+        answer, kinds[which] = kind_named(read_bits(bits[which], 1, 6))
+        if answer != GOOD:
+            return (6, which), None
+    if not pair_is_legal(kinds[1], kinds[2]):
+        return (7, 0), None
+    messages = {which: read_message(kinds[which], bits[which]) for which in (1, 2)}
+    for which in (1, 2):
+        if not bits_are_good(kinds[which], bits[which]) or not content_is_good(messages[which]):
+            return (8, which), None
+    return GOOD, (messages[1], messages[2])
+
+def close_pair(first, second, buffer):
+    """01 'Orders of checks': 2, 7, 8 first, 8 second."""
+    if len(buffer) != 16:
+        return (2, 0), buffer
+    if not pair_is_legal(first[0], second[0]):
+        return (7, 0), buffer
+    if not content_is_good(first):
+        return (8, 1), buffer
+    if not content_is_good(second):
+        return (8, 2), buffer
+    return GOOD, image_of(frame_of(message_bits(first), message_bits(second)))
+
+def send(previous, image, buffer):
+    """01 'Orders of checks': 2 image, 2 buffer, 1, 3, 4, 5; 001 Annex A Appendix 3 paragraph 4: a one is a change."""
+    if len(image) != 16 or len(buffer) != 128:
+        return (2, 0), buffer
+    if previous not in (0, 1):
+        return (1, 0), buffer
+    answer = verdict(image)
+    if answer != GOOD:
+        return answer, buffer
+    levels = []
+    for bit in octet_bits(image):
+        previous = 1 - previous if bit == 1 else previous
+        levels.append(previous)
+    return GOOD, bytes(levels)
+
+# 01 'From levels to a frame', the receiver: started, the last level, the last 128 bits (ones where none has come yet).
+FRESH = (0, 0, (None,) + (1,) * 128)
+
+def hear(state, level):
+    """The state comes back with the answer: number and place, 1 if a frame is handed over, the image."""
+    started, last, window = state
+    if level not in (0, 1):
+        return state, ((1, 0), 0, bytes(16))
+    if started == 1:
+        window = (None,) + window[2:] + (1 if level != last else 0,)
+    state = (1, level, window)
+    if frame_verdict(window) == GOOD:
+        return state, (GOOD, 1, image_of(window))
+    return state, (GOOD, 0, bytes(16))
+
+def search(capture, start):
+    """01 'Orders of checks': 2, 9, 10; the first bit of a capture has position 0."""
+    if len(capture) > 65536:
+        return (2, 0), None
+    if start > 8 * len(capture):
+        return (9, 0), None
+    bits = octet_bits(capture)
+    for position in range(start, len(bits) - 127):
+        if frame_verdict([None] + bits[position:position + 128]) == GOOD:
+            return GOOD, position
+    return (10, 0), None
+
+def nearest_step(feet):
+    """01 'The shift': the nearest multiple of 750 feet, a half goes away from zero."""
+    steps = (abs(feet) + 375) // 750
+    return steps if feet >= 0 else -steps
+
+def shift(message, x_offsets, y_offsets):
+    """01 'Orders of checks': 11, 8, 2 X, 2 Y, 9 on X offsets, 9 on Y offsets, 9 on X result, 9 on Y result."""
+    kind, fields = message
+    if kind not in ("S4", "S4+", "S8", "S8+"):
+        return (11, 0), message
+    if not content_is_good(message):
+        return (8, 1), message
+    lists = ((1, x_offsets), (2, y_offsets))
+    for axis, offsets in lists:
+        if len(offsets) > 8:
+            return (2, axis), message
+    for axis, offsets in lists:
+        if any(offset < -6144000 or offset > 6144000 for offset in offsets):
+            return (9, axis), message
+    x = nearest_step(750 * fields["x"] + sum(x_offsets))
+    y = nearest_step(750 * fields["y"] + sum(y_offsets))
+    for axis, steps in ((1, x), (2, y)):
+        if steps < -4096 or steps > 4095:
+            return (9, axis), message
+    return GOOD, (kind, dict(fields, x=x, y=y))
+
+def altitude(feet):
+    """01 'Messages', altitude from feet; 001 Annex C Appendix 3 paragraph 7.2. No half falls on whole feet."""
+    steps = 1 if feet <= 375 else (2 * feet + 375) // 750
+    if steps > 511:
+        return (9, 0), None
+    return GOOD, steps
+
+# 01 'Messages', track number text; 001 Annex A Appendix 4 paragraph 22, Annex C Appendix 3 paragraph 6.2.
+LETTERS = b"AEGHJKLM"
+DIGITS = b"01234567"
+TEXT_PLACES = ((LETTERS, 19, 21), (LETTERS, 16, 18), (DIGITS, 13, 15), (DIGITS, 10, 12), (DIGITS, 7, 9))
+
+def track_number(text):
+    """01 'Orders of checks': 2, then 9."""
+    if len(text) != 5:
+        return (2, 0), None
+    bits = {}
+    for octet, (characters, first, last) in zip(text, TEXT_PLACES):
+        if octet not in characters:
+            return (9, 0), None
+        write_bits(bits, first, last, characters.index(octet))
+    return GOOD, read_bits(bits, 7, 21)
+
+def track_text(number, buffer):
+    """01 'Orders of checks': 2, then 9."""
+    if len(buffer) != 5:
+        return (2, 0), buffer
+    if number > 32767:
+        return (9, 0), buffer
+    bits = {}
+    write_bits(bits, 7, 21, number)
+    return GOOD, bytes(characters[read_bits(bits, first, last)] for characters, first, last in TEXT_PLACES)

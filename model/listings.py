@@ -1,0 +1,106 @@
+"""The files that are listed, and what the listing program prints for each of them (01 'The listing program')."""
+
+import link1
+from cases import PLACES, faulty_image, pair_of
+from values import (FIRST, LEGAL_PAIRS, N, P, Q, SECOND, T, Stream, image, label_bits, message, turned,
+                    turned_in_message, word_image)
+
+
+def listing(log):
+    if len(log) > 65536:
+        return ["TOO LONG"]
+    images = len(log) // 16
+    listed = ["LINK1"]
+    for n in range(1, images + 1):
+        (number, place), pair = link1.open_image(log[16 * (n - 1):16 * n])
+        if number == 0:
+            listed.append("%d 0 %d %d" % (n, link1.LABELS[pair[0][0]], link1.LABELS[pair[1][0]]))
+        else:
+            listed.append("%d %d %d" % (n, number, place))
+    listed.append("END %d %d" % (images, len(log) - 16 * images))
+    return listed
+
+
+def mixed():
+    unknown = link1.message_bits(SECOND["S6"])
+    link1.write_bits(unknown, 1, 6, 5)
+    return [T, image(FIRST["S6"], SECOND["S6"]), Q, turned(P, 8), turned(P, 125),
+            word_image(link1.message_bits(FIRST["S4"]), unknown),
+            turned_in_message(FIRST["S8+"], SECOND["S3"], 2, 21), image(FIRST["S4"], SECOND["S6"])]
+
+
+def pairs():
+    return [image(FIRST[first], SECOND[second]) for first, second in LEGAL_PAIRS]
+
+
+def refusals():
+    both, blank = (message("S0"), message("S0")), (FIRST["S4"], message("Blank"))
+    good = (FIRST["S4"], SECOND["S6"])
+    images = [turned(image(*good), n) for n in (*range(1, 9), *link1.MARKS, *range(122, 128))]
+    unknown = [label for label in range(64) if label not in link1.LABELS.values()]
+    for label in unknown:
+        images += [word_image(label_bits(label), link1.message_bits(SECOND["S6"])),
+                   word_image(link1.message_bits(FIRST["S4"]), label_bits(label))]
+    images += [image(message(first), message(second)) for first in link1.KINDS for second in link1.KINDS
+               if (first, second) not in LEGAL_PAIRS]
+    images += [turned_in_message(*both, which, n) for which in (1, 2) for n in range(1, 50)]
+    images += [turned_in_message(*blank, 2, n) for n in range(1, 50)]
+    images += [turned_in_message(FIRST["S4+"], SECOND["S3"], 2, n) for n in link1.SPARE]
+    images += [image(message("S4+"), message("S3", request=code)) for code in link1.NOT_USED["request"]]
+    images += [image(message("S8+"), message("S5", strength=code)) for code in link1.NOT_USED["strength"]]
+    for code in link1.NOT_USED["elevation"]:
+        images += [image(message("S6", elevation=code), message("S4")),
+                   image(message("S8"), message("S6", elevation=code))]
+    for word, first, last in link1.FIELDS["S3"]:
+        if word in link1.PRESENCE:
+            images += [turned_in_message(message("S8+"), message("S3"), 2, n) for n in range(first, last + 1)]
+    faults = ("3", "4", "5", "6a", "6b", "7", "8a", "8b")
+    return images + [faulty_image([one, two]) for at, one in enumerate(faults) for two in faults[at + 1:]]
+
+
+def damaged():
+    stream = Stream(8)
+    images = [turned(P, n) for n in range(1, 129)]
+    images += [stream.octets(16) for _ in range(48)]
+    images += [word_image(stream.word(), stream.word()) for _ in range(64)]
+    for kinds in LEGAL_PAIRS * 8:
+        words = (stream.word(), stream.word())
+        for word, kind in zip(words, kinds):
+            link1.write_bits(word, 1, 6, link1.LABELS[kind])
+        images.append(word_image(*words))
+    return images
+
+
+def fields():
+    images = [turned_in_message(*pair_of(message(kind), which, other), which, n)
+              for kind, which, other in PLACES for n in range(7, 50)]
+    for word, first, last in link1.FIELDS["S3"]:
+        if word in link1.PRESENCE:
+            images += [turned_in_message(message("S4+"), message("S3"), 2, link1.PRESENCE[word], n)
+                       for n in range(first, last + 1)]
+    return images
+
+
+def sixteen():
+    """Sixteen images that are listed in sixteen ways."""
+    good = [image(FIRST[first], SECOND[second]) for first, second in
+            (("S0", "S0"), ("S4", "Blank"), ("S4", "S6"), ("S4+", "S3"), ("S6", "S8"), ("S8", "S4"), ("S8+", "S5"),
+             ("S4+", "S5"))]
+    return good + [faulty_image([fault]) for fault in ("3", "4", "5", "6a", "6b", "7", "8a", "8b")]
+
+
+def logs():
+    """Each listed file's name and octets, in order."""
+    full = b"".join(sixteen()) * 256
+    return [("none", b""), ("short", P[:15]), ("left", P + Q + N + T[:7]), ("mixed", b"".join(mixed())),
+            ("pairs", b"".join(pairs())), ("refusals", b"".join(refusals())), ("damaged", b"".join(damaged())),
+            ("fields", b"".join(fields())), ("full", full), ("over", full + b"\x00")]
+
+
+def listed_files():
+    """The files with their paths, and what is printed for all of them."""
+    files = [("crates/list_cases/data/" + name, log) for name, log in logs()]
+    printed = []
+    for name, log in logs():
+        printed += ["== " + name] + listing(log)
+    return files + [("crates/list_cases/stdout", "".join(line + "\n" for line in printed).encode("ascii"))]
