@@ -1,10 +1,6 @@
 // The calls of the public list, each with its arguments from a line's parts and its whole answer told.
 
 use crate::messages;
-use crate::numbers;
-use crate::octets;
-use crate::parts;
-use crate::show;
 use link1::Feet;
 use link1::Found;
 use link1::Heard;
@@ -16,12 +12,11 @@ use link1::Receiver;
 use link1::Refusal;
 use link1::Tracked;
 use link1::Window;
+use parts::numbers;
+use parts::octets;
+use parts::show;
 
 // ---- octets alone
-
-fn verdict(body: &[u8]) {
-    show::refusal(link1::verdict(body));
-}
 
 fn open(body: &[u8]) {
     let opened = link1::open(body);
@@ -254,8 +249,11 @@ fn refusal_at(line: &[u8]) {
     show::refusal(Refusal::at(number, place));
 }
 
-// The numbers that a caller may get back, in the order of 01's table.
-fn tell_numbers() {
+// numbers: those that a caller may get back, in the order of 01's table.
+fn tell_numbers(line: &[u8]) {
+    if parts::count(line) != 1 {
+        return show::refuse();
+    }
     show::first_number(link1::SUCCESS as u64);
     show::number(link1::BAD_LEVEL as u64);
     show::number(link1::BAD_LENGTH as u64);
@@ -270,15 +268,12 @@ fn tell_numbers() {
     show::number(link1::NO_POSITION as u64);
 }
 
-// numbers
-fn all_numbers(line: &[u8]) {
-    if parts::count(line) != 1 {
-        return show::refuse();
-    }
-    tell_numbers();
-}
-
 // ---- messages
+
+fn close_into(first: Message, second: Message, buffer: &mut [u8]) {
+    show::refusal(link1::close(first, second, buffer));
+    show::octets(buffer);
+}
 
 // close MESSAGE MESSAGE BUFFER
 fn close(line: &[u8], space: &mut [u8]) {
@@ -297,11 +292,6 @@ fn close(line: &[u8], space: &mut [u8]) {
         return show::refuse();
     }
     close_into(a, b, &mut space[0..k]);
-}
-
-fn close_into(first: Message, second: Message, buffer: &mut [u8]) {
-    show::refusal(link1::close(first, second, buffer));
-    show::octets(buffer);
 }
 
 // kind_of MESSAGE
@@ -431,7 +421,7 @@ fn octets_from(said: usize) -> usize {
 
 fn call_on(said: usize, line: &[u8], body: &mut [u8]) {
     match said {
-        VERDICT => verdict(body),
+        VERDICT => show::refusal(link1::verdict(body)),
         OPEN => open(body),
         HEAR => feed(Receiver::fresh(), body),
         TRACK_NUMBER => track_number(body),
@@ -463,7 +453,7 @@ pub fn call(line: &[u8], space: &mut [u8]) {
         ALTITUDE => altitude(line),
         REFUSAL_OF => refusal_of(line),
         REFUSAL_AT => refusal_at(line),
-        NUMBERS => all_numbers(line),
+        NUMBERS => tell_numbers(line),
         _ => call_octets(said, line, space),
     }
 }

@@ -2,13 +2,10 @@
 
 mod calls;
 mod messages;
-mod numbers;
-mod octets;
-mod parts;
-mod show;
 
 use libc::STDERR_FILENO;
 use libc::STDIN_FILENO;
+use parts::show;
 
 // How much of a line has come, and whether it is longer than is taken.
 struct Line {

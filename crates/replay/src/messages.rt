@@ -1,8 +1,5 @@
 // Messages as a kind's word, and a word and a number for each field.
 
-use crate::numbers;
-use crate::parts;
-use crate::show;
 use link1::AltSteps;
 use link1::Amplifying;
 use link1::Iff;
@@ -12,6 +9,8 @@ use link1::Message;
 use link1::Mode;
 use link1::Strobe;
 use link1::Track;
+use parts::numbers;
+use parts::show;
 
 fn mode_at(line: &[u8], k: usize, i: usize) -> Mode {
     if numbers::at(line, k, i) == numbers::ABSENT {
