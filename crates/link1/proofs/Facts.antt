@@ -4,8 +4,8 @@ use mathlib.Core.Path.{_≡_, refl}
 use mathlib.Core.Bool.{true, false}
 use mathlib.Core.List.{List, [], _∷_, _++_, map}
 use Prim.Native.Nat.{ℕ, _+_, _-_}
-use lib.IntN.{ℤ, pos, negsuc}
-use lib.ListN.{replicate}
+use lib.IntN.{pos, negsuc}
+use lib.ListN.{replicate, take, getD}
 use Rattle.bits.specs.Tests.{every}
 use Rattle.bits.specs.Numbers.{numOf, sumOf, tab}
 use Rattle.bits.specs.Octets.{octetsOf}
@@ -33,8 +33,8 @@ use Rattle.pair.specs.Pairs.{pairOf}
 use Rattle.pair.specs.Opening.{openRefusal, openOf}
 use Rattle.pair.specs.Closing.{closeRefusal, closeImage}
 use Rattle.shift.specs.Shift.{shiftRefusal, shiftedOf}
-use Rattle.link1.proofs.Asking.{Asked, open-image, close-pair, send-after, hear-after, search-from, number-of, shift-by}
-use Rattle.link1.proofs.Asking.{nothing, pair, buffer, heard, message, value, told, answer, Row, _⇒_, answers, expected, track, at, octets, levels}
+use Rattle.link1.proofs.Asking.{open-image, close-pair, send-after, hear-after, search-from, number-of, shift-by}
+use Rattle.link1.proofs.Asking.{pair, buffer, heard, message, value, told, answer, Row, _⇒_, answers, expected, track, at, octets, levels}
 use Rattle.link1.proofs.Examples.{imageT}
 
 -- ---- labels and bit places (01, 'Messages')
@@ -203,6 +203,9 @@ facts =
     ∷ (send-after 0 imageT ⇒ told 0 0 (buffer levelsT0))
     ∷ (send-after 1 imageT ⇒ told 0 0 (buffer levelsT1))
     ∷ (send-after 2 imageT ⇒ told 1 0 (buffer (fives 128)))
+    -- the fresh receiver given a level and then these hears the image on the last
+    ∷ (hear-after (0 ∷ take 127 levelsT0) (getD levelsT0 127 0) ⇒ told 0 0 (heard true imageT))
+    ∷ (hear-after (0 ∷ take 126 levelsT0) (getD levelsT0 126 0) ⇒ told 0 0 (heard false noOctets))
     -- where there is no frame the octets are zero
     ∷ (hear-after [] 0 ⇒ told 0 0 (heard false noOctets))
     ∷ (hear-after [] 2 ⇒ told 1 0 (heard false noOctets))
