@@ -97,10 +97,15 @@ def logs():
             ("fields", b"".join(fields())), ("full", full), ("over", full + b"\x00")]
 
 
+def text(printed):
+    return "".join(line + "\n" for line in printed).encode("ascii")
+
+
 def listed_files():
-    """The files with their paths, and what is printed for all of them."""
-    files = [("crates/list_cases/data/" + name, log) for name, log in logs()]
+    """The files with their paths, and what is printed for all of them; the paper's own log by itself."""
+    files = [("crates/link1list/stdin", T + N), ("crates/link1list/stdout", text(listing(T + N)))]
+    files += [("crates/list_cases/data/" + name, log) for name, log in logs()]
     printed = []
     for name, log in logs():
         printed += ["== " + name] + listing(log)
-    return files + [("crates/list_cases/stdout", "".join(line + "\n" for line in printed).encode("ascii"))]
+    return files + [("crates/list_cases/stdout", text(printed))]
