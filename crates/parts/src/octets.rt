@@ -180,7 +180,7 @@ fn renew(mut g: Gathered) -> Gathered {
     g
 }
 
-fn repeat_known(g: Gathered, space: &mut [u8]) -> Gathered {
+fn end_times(g: Gathered, space: &mut [u8]) -> Gathered {
     if g.times == 0 {
         return spoil(g);
     }
@@ -196,7 +196,7 @@ fn end(g: Gathered, space: &mut [u8]) -> Gathered {
     match mode {
         NEW => spoil(g),
         SECOND => spoil(g),
-        TIMES => renew(repeat_known(g, space)),
+        TIMES => renew(end_times(g, space)),
         _ => renew(g),
     }
 }

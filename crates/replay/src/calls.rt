@@ -314,14 +314,23 @@ fn label(line: &[u8]) {
     show::first_number(link1::label(k) as u64);
 }
 
-// X offsets from part x on, Y offsets from part y on.
-fn shift_by(m: Message, line: &[u8], x: usize, kx: usize, y: usize, ky: usize) {
+// X offsets from part x on, up to `and`; Y offsets behind it, up to the end. Without an `and` there would be more of them than are taken.
+fn shift_by(m: Message, line: &[u8], x: usize, and: usize, end: usize) {
+    let y = std::num::wrapping_add_usize(and, 1);
+    let kx = std::num::wrapping_sub_usize(and, x);
+    let ky = std::num::wrapping_sub_usize(end, y);
     let xs = numbers::list_at(line, x);
     let ys = numbers::list_at(line, y);
     if 16 < kx {
         return show::refuse();
     }
     if 16 < ky {
+        return show::refuse();
+    }
+    if !numbers::are_i32(line, x, and) {
+        return show::refuse();
+    }
+    if !numbers::are_i32(line, y, end) {
         return show::refuse();
     }
     let shifted = link1::shift(m, &xs[0..kx], &ys[0..ky]);
@@ -331,42 +340,18 @@ fn shift_by(m: Message, line: &[u8], x: usize, kx: usize, y: usize, ky: usize) {
     messages::tell(after);
 }
 
-// Whether offsets stand from part x on, then `and`, and offsets from there to the end.
-fn are_lists(line: &[u8], x: usize, middle: usize, end: usize) -> bool {
-    if end <= middle {
-        return false;
-    }
-    if !numbers::are_i32(line, x, middle) {
-        return false;
-    }
-    numbers::are_i32(line, std::num::wrapping_add_usize(middle, 1), end)
-}
-
 // shift MESSAGE by X .. and Y ..
 fn shift(line: &[u8]) {
     let said = messages::take(line, 1);
     let m = said.message;
-    let end = parts::count(line);
     let x = std::num::wrapping_add_usize(said.next, 1);
-    let middle = parts::find(line, x, b"and");
-    let y = std::num::wrapping_add_usize(middle, 1);
     if said.next == 0 {
         return show::refuse();
     }
     if !parts::says(line, said.next, b"by") {
         return show::refuse();
     }
-    if !are_lists(line, x, middle, end) {
-        return show::refuse();
-    }
-    shift_by(
-        m,
-        line,
-        x,
-        std::num::wrapping_sub_usize(middle, x),
-        y,
-        std::num::wrapping_sub_usize(end, y),
-    );
+    shift_by(m, line, x, parts::find(line, x, b"and"), parts::count(line));
 }
 
 // ---- which call a line says: the words of the calls, and the place of each
