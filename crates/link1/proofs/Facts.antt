@@ -12,7 +12,6 @@ use Rattle.bits.specs.Octets.{octetsOf}
 use Rattle.bits.specs.Layout.{Field, widthOf}
 use Rattle.kind.specs.Layouts.{allKinds, labelOf, layoutOf}
 use Rattle.kind.specs.declared.Kind.{Kind}
-use Rattle.kind.specs.declared.Kind.the-variants as k
 use Rattle.frame.specs.Frame.{goodFrame}
 use Rattle.frame.specs.Words.{imageOf}
 use Rattle.line.specs.Machine.{holdsFrame}
@@ -48,7 +47,7 @@ infix 90 _to_
 abbrev pub _to_ : ℕ → ℕ → List ℕ
 first to last = first ∷ last ∷ []
 
--- those of a layout whose first field begins at a bit
+-- those of each field of a layout whose first field begins at a bit
 abbrev pub placesFrom : ℕ → List Field → List (List ℕ)
 placesFrom bit [] = []
 placesFrom bit (f ∷ fs) = bit to (bit + widthOf f - 1) ∷ placesFrom (bit + widthOf f) fs
@@ -59,9 +58,12 @@ placesOf kind = placesFrom 7 (layoutOf kind)
 abbrev trackPlaces : List (List ℕ)
 trackPlaces = 7 to 21 ∷ 22 to 23 ∷ 24 to 36 ∷ 37 to 49 ∷ []
 
+-- Blank, S.0, S.3, S.4, S.4+, S.5, S.6, S.8, S.8+
 pub places-are :
-    map placesOf (k.S3 ∷ k.S4 ∷ k.S4Plus ∷ k.S5 ∷ k.S6 ∷ k.S8 ∷ k.S8Plus ∷ [])
-    ≡ (7 to 8 ∷ 9 to 20 ∷ 21 to 23 ∷ 24 to 24 ∷ 25 to 25 ∷ 26 to 26 ∷ 27 to 27 ∷ 28 to 28 ∷ 29 to 30 ∷ 31 to 35 ∷ 36 to 37 ∷ 38 to 49 ∷ [])
+    map placesOf allKinds
+    ≡ (7 to 49 ∷ [])
+    ∷ (7 to 7 ∷ 8 to 13 ∷ 14 to 14 ∷ 15 to 20 ∷ 21 to 21 ∷ 22 to 27 ∷ 28 to 28 ∷ 29 to 34 ∷ 35 to 35 ∷ 36 to 41 ∷ 42 to 42 ∷ 43 to 48 ∷ 49 to 49 ∷ [])
+    ∷ (7 to 8 ∷ 9 to 20 ∷ 21 to 23 ∷ 24 to 24 ∷ 25 to 25 ∷ 26 to 26 ∷ 27 to 27 ∷ 28 to 28 ∷ 29 to 30 ∷ 31 to 35 ∷ 36 to 37 ∷ 38 to 49 ∷ [])
     ∷ trackPlaces
     ∷ trackPlaces
     ∷ (7 to 15 ∷ 16 to 18 ∷ 19 to 22 ∷ 23 to 24 ∷ 25 to 25 ∷ 26 to 26 ∷ 27 to 28 ∷ 29 to 36 ∷ 37 to 38 ∷ 39 to 41 ∷ 42 to 49 ∷ [])
