@@ -57,14 +57,15 @@ pub data Asked : Type 0 where
   name-track : List ℕ → Asked
   -- two messages to close into a buffer
   close-pair : Message → Message → List ℕ → Asked
-  -- an image to send after a level, into a buffer of 128 fives
-  send-after : ℕ → List ℕ → Asked
+  -- an image to send after a level, into a buffer
+  send-after : ℕ → List ℕ → List ℕ → Asked
   -- a level for a fresh receiver that has had some levels
   hear-after : List ℕ → ℕ → Asked
   -- a capture to search from a start
   search-from : ℕ → List ℕ → Asked
-  -- a text to make a track number of
+  -- a text to make a track number of, a track number to write into a buffer
   number-of : String → Asked
+  text-of : ℕ → List ℕ → Asked
   -- a message to shift by offsets on X and on Y
   shift-by : Message → List ℤ → List ℤ → Asked
   -- feet to make an altitude of
@@ -113,8 +114,8 @@ trackIn (m.S6 s) = 0
 trackIn (m.S8 t) = t .number
 trackIn (m.S8Plus t) = t .number
 
-abbrev nameOf : ℕ → Came
-nameOf number = tell (textRefusal number (replicate 5 0)) (buffer (textAfter number (replicate 5 0)))
+abbrev nameOf : ℕ → List ℕ → Came
+nameOf number b = tell (textRefusal number b) (buffer (textAfter number b))
 
 abbrev tellHeard : Heard → Came
 tellHeard h = tell (h .refusal) (heard (h .frame) (h .image))
@@ -122,14 +123,14 @@ tellHeard h = tell (h .refusal) (heard (h .frame) (h .image))
 unfoldable pub answer : Asked → Came
 answer (verdict-of image) = tell (verdictOf image) nothing
 answer (open-image image) = tell (opening.refusalOf (openOf image)) (valueOpened (openOf image))
-answer (name-track image) = nameOf (trackIn (wordMessage (firstWord image)))
+answer (name-track image) = nameOf (trackIn (wordMessage (firstWord image))) (replicate 5 0)
 answer (close-pair first second b) = tell (closeRefusal first second b) (buffer (closeImage first second b))
-answer (send-after level image) =
-    tell (sendRefusal image level (replicate 128 5)) (buffer (sendLevels image level (replicate 128 5)))
+answer (send-after level image b) = tell (sendRefusal image level b) (buffer (sendLevels image level b))
 answer (hear-after before level) = tellHeard (heardOf (run before) level)
 answer (search-from start capture) =
     tell (searching.refusalOf (searchOf capture start)) (value (positionFound (searchOf capture start)))
 answer (number-of text) = tell (tracks.refusalOf (trackedOf (octets text))) (value (numberIn (trackedOf (octets text))))
+answer (text-of number b) = nameOf number b
 answer (shift-by msg xs ys) = tell (shiftedOf msg xs ys .refusal) (message (shiftedOf msg xs ys .message))
 answer (altitude-of feet) = tell (heights.refusalOf (heightOf feet)) (valueHeight (heightOf feet))
 

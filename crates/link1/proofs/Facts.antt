@@ -27,13 +27,13 @@ use Rattle.message.specs.declared.Amplifying.{Amplifying}
 use Rattle.message.specs.declared.Strobe.{Strobe}
 use Rattle.message.specs.declared.Message.{Message}
 use Rattle.message.specs.declared.Message.the-variants as m
-use Rattle.track.specs.TrackText.{trackRefusal, trackedOf}
+use Rattle.track.specs.TrackText.{trackRefusal, trackedOf, textRefusal, textAfter}
 use Rattle.pair.specs.Pairs.{pairOf}
 use Rattle.pair.specs.Opening.{openRefusal, openOf}
 use Rattle.pair.specs.Closing.{closeRefusal, closeImage}
 use Rattle.shift.specs.Shift.{shiftRefusal, shiftedOf}
-use Rattle.link1.proofs.Asking.{open-image, close-pair, send-after, hear-after, search-from, number-of, shift-by}
-use Rattle.link1.proofs.Asking.{pair, buffer, heard, message, value, told, answer, Row, _⇒_, answers, expected, track, at, octets, levels}
+use Rattle.link1.proofs.Asking.{open-image, close-pair, send-after, hear-after, search-from, number-of, text-of, shift-by}
+use Rattle.link1.proofs.Asking.{nothing, pair, buffer, heard, message, value, told, answer, Row, _⇒_, answers, expected, track, at, octets, levels}
 use Rattle.link1.proofs.Examples.{imageT}
 
 -- ---- labels and bit places (01, 'Messages')
@@ -168,6 +168,19 @@ imageAmplifyingA = 0 ∷ 0xc7 ∷ 0x9c ∷ 0x86 ∷ 0xce ∷ 0xcd ∷ 0xff ∷ 0
 abbrev imageAmplifyingB : List ℕ
 imageAmplifyingB = 0 ∷ 0xd7 ∷ 0x84 ∷ 0xb9 ∷ 0xb6 ∷ 0xa0 ∷ 0x81 ∷ 0xc1 ∷ 0xa5 ∷ 0xb2 ∷ 0xb3 ∷ 0x96 ∷ 0x9e ∷ 0xa5 ∷ 0xb7 ∷ 0xfd ∷ []
 
+-- an image of two messages' octets and a check group; a message that is but a label; an S.5 of strength 1; an S.6 of elevation 13
+abbrev image : List ℕ → List ℕ → ℕ → List ℕ
+image first second check = 0 ∷ first ++ second ++ check ∷ []
+
+abbrev label : ℕ → List ℕ
+label octet = octet ∷ replicate 6 0x80
+
+abbrev strength1 : List ℕ
+strength1 = 0xa4 ∷ 0x80 ∷ 0xa0 ∷ replicate 4 0x80
+
+abbrev elevation13 : List ℕ
+elevation13 = 0x94 ∷ replicate 4 0x80 ++ 0x85 ∷ 0xc0 ∷ []
+
 -- a buffer with something in it, and no octets of a frame
 abbrev fives : ℕ → List ℕ
 fives n = replicate n 5
@@ -195,16 +208,24 @@ facts =
     ∷ (open-image imageIffB ⇒ told 0 0 (pair (m.S8Plus trackB) (m.S3 iffB)))
     ∷ (open-image imageAmplifyingA ⇒ told 0 0 (pair (m.S4Plus trackA) (m.S5 (amplifyingA 6))))
     ∷ (open-image imageAmplifyingB ⇒ told 0 0 (pair (m.S8Plus trackB) (m.S5 amplifyingB)))
+    -- opening: 6 first (labels 5 and 24), 6 second, 7, 8 first, 8 second, each told before the next
+    ∷ (open-image (image (label 0xd0) (label 0x8c) 0xa3) ⇒ told 6 1 nothing)
+    ∷ (open-image (image (label 0xc4) (label 0x8c) 0xb7) ⇒ told 6 2 nothing)
+    ∷ (open-image (image strength1 strength1 0xff) ⇒ told 7 0 nothing)
+    ∷ (open-image (image elevation13 elevation13 0xff) ⇒ told 8 1 nothing)
+    ∷ (open-image (image (label 0xc4) elevation13 0xeb) ⇒ told 8 2 nothing)
     -- closing: 2, 7, 8 first, 8 second, each told before the next, and the buffer left
     ∷ (close-pair far m.S0 (fives 15) ⇒ told 2 0 (buffer (fives 15)))
     ∷ (close-pair far m.S0 (fives 16) ⇒ told 7 0 (buffer (fives 16)))
     ∷ (close-pair far far (fives 16) ⇒ told 8 1 (buffer (fives 16)))
     ∷ (close-pair (at (pos 0)) far (fives 16) ⇒ told 8 2 (buffer (fives 16)))
     ∷ (close-pair (m.S4 trackA) (m.S8 trackB) (fives 16) ⇒ told 0 0 (buffer imageAB))
-    -- a one changes the level
-    ∷ (send-after 0 imageT ⇒ told 0 0 (buffer levelsT0))
-    ∷ (send-after 1 imageT ⇒ told 0 0 (buffer levelsT1))
-    ∷ (send-after 2 imageT ⇒ told 1 0 (buffer (fives 128)))
+    -- a one changes the level; 2 buffer, 1, 3, each told before the next
+    ∷ (send-after 0 imageT (fives 128) ⇒ told 0 0 (buffer levelsT0))
+    ∷ (send-after 1 imageT (fives 128) ⇒ told 0 0 (buffer levelsT1))
+    ∷ (send-after 2 imageT (fives 127) ⇒ told 2 0 (buffer (fives 127)))
+    ∷ (send-after 2 (fives 16) (fives 128) ⇒ told 1 0 (buffer (fives 128)))
+    ∷ (send-after 1 (fives 16) (fives 128) ⇒ told 3 0 (buffer (fives 128)))
     -- the fresh receiver given a level and then these hears the image on the last
     ∷ (hear-after (0 ∷ take 127 levelsT0) (getD levelsT0 127 0) ⇒ told 0 0 (heard true imageT))
     ∷ (hear-after (0 ∷ take 126 levelsT0) (getD levelsT0 126 0) ⇒ told 0 0 (heard false noOctets))
@@ -216,13 +237,18 @@ facts =
     ∷ (search-from 0 imageT ⇒ told 0 0 (value 0))
     ∷ (search-from 0 (0xff ∷ imageT) ⇒ told 0 0 (value 8))
     ∷ (search-from 9 (0xff ∷ imageT) ⇒ told 10 0 (value 0))
+    ∷ (search-from 128 imageT ⇒ told 10 0 (value 0))
     ∷ (search-from 129 imageT ⇒ told 9 0 (value 0))
-    -- every letter and every digit
+    -- every letter and every digit; 2 before 9
     ∷ (number-of "AE012" ⇒ told 0 0 (value 522))
     ∷ (number-of "GH345" ⇒ told 0 0 (value 9957))
     ∷ (number-of "JK670" ⇒ told 0 0 (value 19384))
     ∷ (number-of "LM123" ⇒ told 0 0 (value 28243))
     ∷ (number-of "BA000" ⇒ told 9 0 (value 0))
+    ∷ (number-of "BA00" ⇒ told 2 0 (value 0))
+    ∷ (text-of 5203 (fives 5) ⇒ told 0 0 (buffer (octets "EG123")))
+    ∷ (text-of 32768 (fives 5) ⇒ told 9 0 (buffer (fives 5)))
+    ∷ (text-of 32768 (fives 6) ⇒ told 2 0 (buffer (fives 6)))
     -- each kind with a position, and one without
     ∷ (shift-by (m.S4Plus trackA) (pos 375 ∷ []) (negsuc 1124 ∷ []) ⇒ told 0 0 (message (m.S4Plus (track 12345 1 (negsuc 1233) (pos 3006)))))
     ∷ (shift-by (m.S8 trackB) [] (pos 750 ∷ []) ⇒ told 0 0 (message (m.S8 (track 20001 2 (pos 77) (negsuc 3998)))))
@@ -240,7 +266,7 @@ facts =
 
 pub facts-hold : answers facts ≡ expected facts
 unfolding facts answer every numOf sumOf tab octetsOf goodFrame imageOf openRefusal openOf pairOf closeRefusal closeImage encodedOf sendRefusal sendLevels holdsFrame
-    goodAt firstGood searchRefusal searchOf trackRefusal trackedOf shiftedOf shiftRefusal areOffsets within sumZ near
+    goodAt firstGood searchRefusal searchOf trackRefusal trackedOf textRefusal textAfter shiftedOf shiftRefusal areOffsets within sumZ near
 facts-hold = refl
 
 -- ---- codes that are not used (01, 'Messages'): the number that closing answers for each value
