@@ -18,6 +18,11 @@ use Rattle.units.specs.Heights.{heightOf}
 use Rattle.units.specs.Heights as heights
 use Rattle.units.specs.declared.Height.{Height}
 use Rattle.units.specs.declared.Height.the-variants as H
+use Rattle.kind.specs.Layouts.{labelOf}
+use Rattle.kind.specs.Labels.{namedOf}
+use Rattle.kind.specs.Labels as labels
+use Rattle.kind.specs.declared.Named.{Named}
+use Rattle.kind.specs.declared.Named.the-variants as N
 use Rattle.message.specs.declared.Track.{Track}
 use Rattle.message.specs.declared.Message.{Message}
 use Rattle.message.specs.declared.Message.the-variants as m
@@ -55,6 +60,8 @@ pub data Asked : Type 0 where
   verdict-of : List ℕ → Asked
   open-image : List ℕ → Asked
   name-track : List ℕ → Asked
+  -- a label to name the kind of
+  kind-named : ℕ → Asked
   -- two messages to close into a buffer
   close-pair : Message → Message → List ℕ → Asked
   -- an image to send after a level, into a buffer
@@ -98,6 +105,10 @@ abbrev valueOpened : Opened → Value
 valueOpened (O.Pair first second) = pair first second
 valueOpened (O.Refused r) = nothing
 
+abbrev valueNamed : Named → Value
+valueNamed (N.Kind k) = value (labelOf k)
+valueNamed (N.Refused r) = nothing
+
 abbrev valueHeight : Height → Value
 valueHeight (H.At n) = value (n .0)
 valueHeight (H.Refused r) = nothing
@@ -124,6 +135,7 @@ unfoldable pub answer : Asked → Came
 answer (verdict-of image) = tell (verdictOf image) nothing
 answer (open-image image) = tell (opening.refusalOf (openOf image)) (valueOpened (openOf image))
 answer (name-track image) = nameOf (trackIn (wordMessage (firstWord image))) (replicate 5 0)
+answer (kind-named label) = tell (labels.refusalOf (namedOf label)) (valueNamed (namedOf label))
 answer (close-pair first second b) = tell (closeRefusal first second b) (buffer (closeImage first second b))
 answer (send-after level image b) = tell (sendRefusal image level b) (buffer (sendLevels image level b))
 answer (hear-after before level) = tellHeard (heardOf (run before) level)

@@ -11,8 +11,9 @@ use Rattle.bits.specs.Numbers.{numOf, sumOf, tab}
 use Rattle.bits.specs.Octets.{octetsOf}
 use Rattle.bits.specs.Layout.{Field, widthOf}
 use Rattle.kind.specs.Layouts.{allKinds, labelOf, layoutOf}
+use Rattle.kind.specs.Labels.{nameRefusal, namedOf}
 use Rattle.kind.specs.declared.Kind.{Kind}
-use Rattle.frame.specs.Frame.{goodFrame}
+use Rattle.frame.specs.Frame.{goodFrame, verdictOf}
 use Rattle.frame.specs.Words.{imageOf}
 use Rattle.line.specs.Machine.{holdsFrame}
 use Rattle.line.specs.Sending.{sendRefusal, sendLevels}
@@ -32,7 +33,7 @@ use Rattle.pair.specs.Pairs.{pairOf}
 use Rattle.pair.specs.Opening.{openRefusal, openOf}
 use Rattle.pair.specs.Closing.{closeRefusal, closeImage}
 use Rattle.shift.specs.Shift.{shiftRefusal, shiftedOf}
-use Rattle.link1.proofs.Asking.{open-image, close-pair, send-after, hear-after, search-from, number-of, text-of, shift-by}
+use Rattle.link1.proofs.Asking.{verdict-of, open-image, kind-named, close-pair, send-after, hear-after, search-from, number-of, text-of, shift-by}
 use Rattle.link1.proofs.Asking.{nothing, pair, buffer, heard, message, value, told, answer, Row, _⇒_, answers, expected, track, at, octets, levels}
 use Rattle.link1.proofs.Examples.{imageT}
 
@@ -208,6 +209,16 @@ facts =
     ∷ (open-image imageIffB ⇒ told 0 0 (pair (m.S8Plus trackB) (m.S3 iffB)))
     ∷ (open-image imageAmplifyingA ⇒ told 0 0 (pair (m.S4Plus trackA) (m.S5 (amplifyingA 6))))
     ∷ (open-image imageAmplifyingB ⇒ told 0 0 (pair (m.S8Plus trackB) (m.S5 amplifyingB)))
+    -- an image: 2, 3, 4, 5, each told before the next
+    ∷ (verdict-of (fives 15) ⇒ told 2 0 nothing)
+    ∷ (verdict-of (fives 16) ⇒ told 3 0 nothing)
+    ∷ (verdict-of (0 ∷ replicate 15 0) ⇒ told 4 0 nothing)
+    ∷ (verdict-of (image (label 0xc4) (label 0x80) 0xba) ⇒ told 4 0 nothing)
+    ∷ (verdict-of (image (label 0xc4) (label 0x80) 0xb9) ⇒ told 5 0 nothing)
+    -- a label alone
+    ∷ (kind-named 17 ⇒ told 0 0 (value 17))
+    ∷ (kind-named 5 ⇒ told 6 0 nothing)
+    ∷ (kind-named 81 ⇒ told 6 0 nothing)
     -- opening: 6 first (labels 5 and 24), 6 second, 7, 8 first, 8 second, each told before the next
     ∷ (open-image (image (label 0xd0) (label 0x8c) 0xa3) ⇒ told 6 1 nothing)
     ∷ (open-image (image (label 0xc4) (label 0x8c) 0xb7) ⇒ told 6 2 nothing)
@@ -262,10 +273,13 @@ facts =
     ∷ (shift-by (at (pos 0)) (pos 6144000 ∷ []) (pos 6144001 ∷ []) ⇒ told 9 2 (message (at (pos 0))))
     ∷ (shift-by (at (pos 0)) (pos 6144000 ∷ []) (pos 6144000 ∷ []) ⇒ told 9 1 (message (at (pos 0))))
     ∷ (shift-by (at (pos 0)) [] (pos 6144000 ∷ []) ⇒ told 9 2 (message (at (pos 0))))
+    -- offsets reach from -6,144,000
+    ∷ (shift-by (at (pos 0)) (negsuc 6143999 ∷ pos 6144000 ∷ []) [] ⇒ told 0 0 (message (at (pos 0))))
+    ∷ (shift-by (at (pos 0)) (negsuc 6144000 ∷ pos 6144000 ∷ []) [] ⇒ told 9 1 (message (at (pos 0))))
     ∷ []
 
 pub facts-hold : answers facts ≡ expected facts
-unfolding facts answer every numOf sumOf tab octetsOf goodFrame imageOf openRefusal openOf pairOf closeRefusal closeImage encodedOf sendRefusal sendLevels holdsFrame
+unfolding facts answer every numOf sumOf tab octetsOf goodFrame verdictOf imageOf nameRefusal namedOf openRefusal openOf pairOf closeRefusal closeImage encodedOf sendRefusal sendLevels holdsFrame
     goodAt firstGood searchRefusal searchOf trackRefusal trackedOf textRefusal textAfter shiftedOf shiftRefusal areOffsets within sumZ near
 facts-hold = refl
 
