@@ -1,5 +1,5 @@
--- Small facts of 001 and 01 in one table with one proof, so that a definition read wrongly is refused here even where code and proofs have
--- the same mistake. The images and levels were worked out by model/. Assumes nothing.
+-- Small facts of 001 and 01, in short tables, each proved by computation: so that a definition read wrongly is refused here, by name, even
+-- where code and proofs share the mistake. The images and levels were worked out by model/. Assumes nothing.
 use mathlib.Core.Path.{_≡_, refl}
 use mathlib.Core.Bool.{true, false}
 use mathlib.Core.List.{List, [], _∷_, _++_, map}
@@ -200,58 +200,123 @@ levelsT1 = levels "1111111100101100110100110010110011010011001011001101001100101
 abbrev far : Message
 far = at (pos 4096)
 
-pub facts : List Row
-facts =
-    -- every field in its place
+-- ---- the rows: number, place and what comes with them
+
+-- every field in its place (01, 'Messages')
+abbrev pub fields : List Row
+fields =
     (open-image imageAB ⇒ told 0 0 (pair (m.S4 trackA) (m.S8 trackB)))
     ∷ (open-image imageStrobes ⇒ told 0 0 (pair (m.S6 (strobeA 11)) (m.S6 strobeB)))
     ∷ (open-image imageIffA ⇒ told 0 0 (pair (m.S4Plus trackA) (m.S3 (iffA 4))))
     ∷ (open-image imageIffB ⇒ told 0 0 (pair (m.S8Plus trackB) (m.S3 iffB)))
     ∷ (open-image imageAmplifyingA ⇒ told 0 0 (pair (m.S4Plus trackA) (m.S5 (amplifyingA 6))))
     ∷ (open-image imageAmplifyingB ⇒ told 0 0 (pair (m.S8Plus trackB) (m.S5 amplifyingB)))
-    -- an image: 2, 3, 4, 5, each told before the next
-    ∷ (verdict-of (fives 15) ⇒ told 2 0 nothing)
+    ∷ []
+
+pub fields-hold : answers fields ≡ expected fields
+unfolding answer every numOf sumOf openRefusal openOf pairOf
+fields-hold = refl
+
+-- an image: 2, 3, 4, 5, each told before the next (01, 'Orders of checks')
+abbrev pub verdicts : List Row
+verdicts =
+    (verdict-of (fives 15) ⇒ told 2 0 nothing)
     ∷ (verdict-of (fives 16) ⇒ told 3 0 nothing)
     ∷ (verdict-of (0 ∷ replicate 15 0) ⇒ told 4 0 nothing)
     ∷ (verdict-of (image (label 0xc4) (label 0x80) 0xba) ⇒ told 4 0 nothing)
     ∷ (verdict-of (image (label 0xc4) (label 0x80) 0xb9) ⇒ told 5 0 nothing)
-    -- a label alone
-    ∷ (kind-named 17 ⇒ told 0 0 (value 17))
+    ∷ []
+
+pub verdicts-hold : answers verdicts ≡ expected verdicts
+unfolding answer every sumOf verdictOf
+verdicts-hold = refl
+
+-- a label alone: 6
+abbrev pub named : List Row
+named =
+    (kind-named 17 ⇒ told 0 0 (value 17))
     ∷ (kind-named 5 ⇒ told 6 0 nothing)
     ∷ (kind-named 81 ⇒ told 6 0 nothing)
-    -- opening: 6 first (labels 5 and 24), 6 second, 7, 8 first, 8 second, each told before the next
-    ∷ (open-image (image (label 0xd0) (label 0x8c) 0xa3) ⇒ told 6 1 nothing)
+    ∷ []
+
+pub named-hold : answers named ≡ expected named
+unfolding answer nameRefusal namedOf
+named-hold = refl
+
+-- opening: 6 first (labels 5 and 24), 6 second, 7, 8 first, 8 second, each told before the next
+abbrev pub opening : List Row
+opening =
+    (open-image (image (label 0xd0) (label 0x8c) 0xa3) ⇒ told 6 1 nothing)
     ∷ (open-image (image (label 0xc4) (label 0x8c) 0xb7) ⇒ told 6 2 nothing)
     ∷ (open-image (image strength1 strength1 0xff) ⇒ told 7 0 nothing)
     ∷ (open-image (image elevation13 elevation13 0xff) ⇒ told 8 1 nothing)
     ∷ (open-image (image (label 0xc4) elevation13 0xeb) ⇒ told 8 2 nothing)
-    -- closing: 2, 7, 8 first, 8 second, each told before the next, and the buffer left
-    ∷ (close-pair far m.S0 (fives 15) ⇒ told 2 0 (buffer (fives 15)))
+    ∷ []
+
+pub opening-hold : answers opening ≡ expected opening
+unfolding answer every numOf sumOf openRefusal openOf pairOf
+opening-hold = refl
+
+-- closing: 2, 7, 8 first, 8 second, each told before the next, and the buffer left
+abbrev pub closing : List Row
+closing =
+    (close-pair far m.S0 (fives 15) ⇒ told 2 0 (buffer (fives 15)))
     ∷ (close-pair far m.S0 (fives 16) ⇒ told 7 0 (buffer (fives 16)))
     ∷ (close-pair far far (fives 16) ⇒ told 8 1 (buffer (fives 16)))
     ∷ (close-pair (at (pos 0)) far (fives 16) ⇒ told 8 2 (buffer (fives 16)))
     ∷ (close-pair (m.S4 trackA) (m.S8 trackB) (fives 16) ⇒ told 0 0 (buffer imageAB))
-    -- a one changes the level; 2 buffer, 1, 3, each told before the next
-    ∷ (send-after 0 imageT (fives 128) ⇒ told 0 0 (buffer levelsT0))
+    ∷ []
+
+pub closing-hold : answers closing ≡ expected closing
+unfolding answer numOf sumOf tab octetsOf imageOf pairOf closeRefusal closeImage encodedOf
+closing-hold = refl
+
+-- sending: a one changes the level (01, 'From levels to a frame'); 2 buffer, 1, 3, each told before the next
+abbrev pub sending : List Row
+sending =
+    (send-after 0 imageT (fives 128) ⇒ told 0 0 (buffer levelsT0))
     ∷ (send-after 1 imageT (fives 128) ⇒ told 0 0 (buffer levelsT1))
     ∷ (send-after 2 imageT (fives 127) ⇒ told 2 0 (buffer (fives 127)))
     ∷ (send-after 2 (fives 16) (fives 128) ⇒ told 1 0 (buffer (fives 128)))
     ∷ (send-after 1 (fives 16) (fives 128) ⇒ told 3 0 (buffer (fives 128)))
-    -- the fresh receiver given a level and then these hears the image on the last
-    ∷ (hear-after (0 ∷ take 127 levelsT0) (getD levelsT0 127 0) ⇒ told 0 0 (heard true imageT))
+    ∷ []
+
+pub sending-hold : answers sending ≡ expected sending
+unfolding answer every sumOf tab sendRefusal sendLevels
+sending-hold = refl
+
+-- hearing: the fresh receiver given a level and then those of an image hands it over on the last; where there is no frame the octets are zero
+abbrev pub hearing : List Row
+hearing =
+    (hear-after (0 ∷ take 127 levelsT0) (getD levelsT0 127 0) ⇒ told 0 0 (heard true imageT))
     ∷ (hear-after (0 ∷ take 126 levelsT0) (getD levelsT0 126 0) ⇒ told 0 0 (heard false noOctets))
-    -- where there is no frame the octets are zero
     ∷ (hear-after [] 0 ⇒ told 0 0 (heard false noOctets))
     ∷ (hear-after [] 2 ⇒ told 1 0 (heard false noOctets))
     ∷ (hear-after (1 ∷ 0 ∷ []) 1 ⇒ told 0 0 (heard false noOctets))
-    -- the first bit of a capture has position 0
-    ∷ (search-from 0 imageT ⇒ told 0 0 (value 0))
+    ∷ []
+
+pub hearing-hold : answers hearing ≡ expected hearing
+unfolding answer every sumOf goodFrame holdsFrame
+hearing-hold = refl
+
+-- searching: the first bit of a capture has position 0
+abbrev pub searching : List Row
+searching =
+    (search-from 0 imageT ⇒ told 0 0 (value 0))
     ∷ (search-from 0 (0xff ∷ imageT) ⇒ told 0 0 (value 8))
     ∷ (search-from 9 (0xff ∷ imageT) ⇒ told 10 0 (value 0))
     ∷ (search-from 128 imageT ⇒ told 10 0 (value 0))
     ∷ (search-from 129 imageT ⇒ told 9 0 (value 0))
-    -- every letter and every digit; 2 before 9
-    ∷ (number-of "AE012" ⇒ told 0 0 (value 522))
+    ∷ []
+
+pub searching-hold : answers searching ≡ expected searching
+unfolding answer every sumOf goodFrame goodAt firstGood searchRefusal searchOf
+searching-hold = refl
+
+-- track texts: every letter and every digit; 2 before 9
+abbrev pub texts : List Row
+texts =
+    (number-of "AE012" ⇒ told 0 0 (value 522))
     ∷ (number-of "GH345" ⇒ told 0 0 (value 9957))
     ∷ (number-of "JK670" ⇒ told 0 0 (value 19384))
     ∷ (number-of "LM123" ⇒ told 0 0 (value 28243))
@@ -260,28 +325,42 @@ facts =
     ∷ (text-of 5203 (fives 5) ⇒ told 0 0 (buffer (octets "EG123")))
     ∷ (text-of 32768 (fives 5) ⇒ told 9 0 (buffer (fives 5)))
     ∷ (text-of 32768 (fives 6) ⇒ told 2 0 (buffer (fives 6)))
-    -- each kind with a position, and one without
-    ∷ (shift-by (m.S4Plus trackA) (pos 375 ∷ []) (negsuc 1124 ∷ []) ⇒ told 0 0 (message (m.S4Plus (track 12345 1 (negsuc 1233) (pos 3006)))))
+    ∷ []
+
+pub texts-hold : answers texts ≡ expected texts
+unfolding answer every trackRefusal trackedOf textRefusal textAfter
+texts-hold = refl
+
+-- shifting: each kind with a position, and one without (11)
+abbrev pub shifting : List Row
+shifting =
+    (shift-by (m.S4Plus trackA) (pos 375 ∷ []) (negsuc 1124 ∷ []) ⇒ told 0 0 (message (m.S4Plus (track 12345 1 (negsuc 1233) (pos 3006)))))
     ∷ (shift-by (m.S8 trackB) [] (pos 750 ∷ []) ⇒ told 0 0 (message (m.S8 (track 20001 2 (pos 77) (negsuc 3998)))))
     ∷ (shift-by (m.S8Plus trackB) (negsuc 749 ∷ []) [] ⇒ told 0 0 (message (m.S8Plus (track 20001 2 (pos 76) (negsuc 3999)))))
     ∷ (shift-by (m.S6 (strobeA 11)) (replicate 9 (pos 0)) [] ⇒ told 11 0 (message (m.S6 (strobeA 11))))
-    -- 8, 2 X, 2 Y, 9 on X offsets, 9 on Y offsets, 9 on X result, 9 on Y result, each told before the next
-    ∷ (shift-by far (replicate 9 (pos 0)) [] ⇒ told 8 1 (message far))
+    ∷ []
+
+pub shifting-hold : answers shifting ≡ expected shifting
+unfolding answer encodedOf shiftedOf shiftRefusal areOffsets within sumZ near
+shifting-hold = refl
+
+-- shifting: 8, 2 X, 2 Y, 9 on X offsets, 9 on Y offsets, 9 on X result, 9 on Y result, each told before the next; offsets reach from -6,144,000
+abbrev pub shift-orders : List Row
+shift-orders =
+    (shift-by far (replicate 9 (pos 0)) [] ⇒ told 8 1 (message far))
     ∷ (shift-by (at (pos 0)) (replicate 9 (pos 0)) (replicate 9 (pos 0)) ⇒ told 2 1 (message (at (pos 0))))
     ∷ (shift-by (at (pos 0)) (pos 6144001 ∷ []) (replicate 9 (pos 0)) ⇒ told 2 2 (message (at (pos 0))))
     ∷ (shift-by (at (pos 0)) (pos 6144001 ∷ []) (pos 6144001 ∷ []) ⇒ told 9 1 (message (at (pos 0))))
     ∷ (shift-by (at (pos 0)) (pos 6144000 ∷ []) (pos 6144001 ∷ []) ⇒ told 9 2 (message (at (pos 0))))
     ∷ (shift-by (at (pos 0)) (pos 6144000 ∷ []) (pos 6144000 ∷ []) ⇒ told 9 1 (message (at (pos 0))))
     ∷ (shift-by (at (pos 0)) [] (pos 6144000 ∷ []) ⇒ told 9 2 (message (at (pos 0))))
-    -- offsets reach from -6,144,000
     ∷ (shift-by (at (pos 0)) (negsuc 6143999 ∷ pos 6144000 ∷ []) [] ⇒ told 0 0 (message (at (pos 0))))
     ∷ (shift-by (at (pos 0)) (negsuc 6144000 ∷ pos 6144000 ∷ []) [] ⇒ told 9 1 (message (at (pos 0))))
     ∷ []
 
-pub facts-hold : answers facts ≡ expected facts
-unfolding facts answer every numOf sumOf tab octetsOf goodFrame verdictOf imageOf nameRefusal namedOf openRefusal openOf pairOf closeRefusal closeImage encodedOf sendRefusal sendLevels holdsFrame
-    goodAt firstGood searchRefusal searchOf trackRefusal trackedOf textRefusal textAfter shiftedOf shiftRefusal areOffsets within sumZ near
-facts-hold = refl
+pub shift-orders-hold : answers shift-orders ≡ expected shift-orders
+unfolding answer encodedOf shiftedOf shiftRefusal areOffsets within sumZ near
+shift-orders-hold = refl
 
 -- ---- codes that are not used (01, 'Messages'): the number that closing answers for each value
 

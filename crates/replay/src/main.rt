@@ -110,6 +110,7 @@ fn close(l: Line, line: &[u8], space: &mut [u8]) {
     }
 }
 
+// Reads until the input ends. That the loop ends for any input is shown by counting the reads, more than a file of calls can need.
 fn run(line: &mut [u8], space: &mut [u8]) {
     let mut l = begin();
     let mut turns: u64 = 0x1_0000_0000;
