@@ -32,7 +32,7 @@ abbrev pub kindNamed : Labelled → Kind
 kindNamed (Known k) = k
 kindNamed Unknown = Blank
 
--- ---- the kind of a label alone: 6
+-- ---- the kind of a label alone: 6, place 0 (docs/DECISIONS.md, 'The public list and the listing')
 
 abbrev pub nameChecks : ℕ → List Check
 nameChecks label = check (isKnown (kindFrom allKinds label)) unknownLabel ∷ []

@@ -10,7 +10,7 @@ use crate::start;
 // A mode that is absent, among the numbers. No field has this value.
 pub const ABSENT: u64 = 0x8000_0000_0000_0000;
 
-fn wide(x: u8) -> u64
+pub fn wide(x: u8) -> u64
     ensures { λ r. ⌜ r ≡ x ⌝ }
 {
     x as u64

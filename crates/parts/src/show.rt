@@ -37,15 +37,11 @@ pub fn bits(n: u64) {
     io::print_hex(STDOUT_FILENO, n, 16);
 }
 
-fn wide(x: u8) -> u64 {
-    x as u64
-}
-
 // Octets in hexadecimal, in so many digits each.
 fn list(s: &[u8], width: usize) {
     let mut i = 0;
     while i < s.len() {
-        io::print_hex(STDOUT_FILENO, wide(s[i]), width);
+        io::print_hex(STDOUT_FILENO, numbers::wide(s[i]), width);
         i += 1;
     }
 }

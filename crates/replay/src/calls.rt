@@ -51,7 +51,7 @@ fn is_zero(s: &[u8]) -> bool {
 // Whether an answer says nothing: no refusal, no frame, and octets of zero.
 fn is_silent(heard: Heard) -> bool {
     let image = heard.image;
-    if heard.refusal.number != 0 {
+    if heard.refusal.number != link1::SUCCESS {
         return false;
     }
     if heard.refusal.place != 0 {
