@@ -2,8 +2,8 @@
 
 import link1
 import lines
-from values import (FIRST, LEGAL_PAIRS, LENT, N, P, Q, SECOND, T, TRACK_KINDS, Stream, changed, image, label_bits,
-                    message, turned, turned_in_message, word_image)
+from values import (FIRST, LEGAL_PAIRS, LENT, N, P, Q, SECOND, T, Stream, changed, image, label_bits, message, turned,
+                    turned_in_message, word_image)
 
 LENT16 = LENT[:16]
 PLAIN16 = bytes([0x5a]) * 16
@@ -11,7 +11,7 @@ PLAIN16 = bytes([0x5a]) * 16
 # A legal pair for a message of each kind in each place that it may have: the other message of the pair.
 PLACES = (("S4", 1, "Blank"), ("S4", 2, "S6"), ("S4+", 1, "S3"), ("S6", 1, "Blank"), ("S6", 2, "S4"),
           ("S8", 1, "Blank"), ("S8", 2, "S4"), ("S8+", 1, "S5"), ("S3", 2, "S4+"), ("S5", 2, "S4+"), ("S3", 2, "S8+"),
-          ("S5", 2, "S8+"))
+          ("S5", 2, "S8+"), ("S9", 1, "S9"), ("S9", 2, "S9"))
 
 
 def pair_of(given, which, other):
@@ -60,8 +60,9 @@ def names():
     cases += [lines.label(kind) for kind in link1.KINDS]
     cases += [lines.kind_named(number) for number in range(256)]
     cases += [lines.kind_of(message(kind)) for kind in link1.KINDS]
-    cases += [lines.kind_of(given) for given in (FIRST["S4"], FIRST["S6"], SECOND["S3"], SECOND["S5"])]
-    cases += [lines.kind_of(message("S3", request=7, mode1=65535)), lines.kind_of(message("S8+", x=32767, y=-32768))]
+    cases += [lines.kind_of(given) for given in (FIRST["S4"], FIRST["S6"], SECOND["S3"], SECOND["S5"], FIRST["S9"])]
+    cases += [lines.kind_of(message("S3", request=7, mode1=65535)), lines.kind_of(message("S8+", x=32767, y=-32768)),
+              lines.kind_of(message("S9", area=255, site=255, number=255, drop=1, x=-32768, y=32767))]
     cases += [lines.refusal_of(number) for number in (*link1.NUMBERS, 12, 13, 63, 64, 127, 128, 200, 254, 255)]
     for place in (0, 1, 2, 3, 9, 128, 255):
         cases += [lines.refusal_at(number, place) for number in (*link1.NUMBERS, 12, 128, 255)]
@@ -84,8 +85,9 @@ def labels_opened():
     """Every label in the first place and in the second, beside known labels and unknown ones."""
     cases = []
     for label in range(64):
-        cases += opens([word_image(label_bits(label), label_bits(0)), word_image(label_bits(17), label_bits(label)),
-                        word_image(label_bits(label), label_bits(5)), word_image(label_bits(24), label_bits(label))])
+        for before, behind in ((17, 0), (24, 37), (5, 5)):
+            cases += opens([word_image(label_bits(label), label_bits(behind)),
+                            word_image(label_bits(before), label_bits(label))])
     return cases
 
 
@@ -140,12 +142,12 @@ def bits_opened():
 def bits_missing():
     """Each bit of a message turned where the fields all differ, on opening."""
     images = []
-    for first, second in (("S4", "S6"), ("S8+", "S3"), ("S4+", "S5"), ("S6", "S8")):
+    for first, second in (("S4", "S6"), ("S8+", "S3"), ("S4+", "S5"), ("S6", "S8"), ("S9", "S9")):
         images += [turned_in_message(FIRST[first], SECOND[second], which, n) for which in (1, 2) for n in range(1, 50)]
     return opens(images)
 
 
-# The fields that a call holds in 16 bits; the track number too, but not the strobe number.
+# The fields that a call holds in 16 bits; the track number too, but not the strobe number and the corner number.
 WIDE = ("altitude", "azimuth", "mode1", "mode2", "mode3a")
 
 
@@ -176,7 +178,7 @@ CODES = (("S3", "request"), ("S3", "emergency"), ("S3", "validation"), ("S4", "q
          ("S8", "quality"), ("S8+", "quality"), ("S5", "strength"), ("S5", "identification"), ("S5", "special23"),
          ("S5", "simulated"), ("S5", "drop"), ("S5", "traffic"), ("S5", "allocation"), ("S5", "special39"),
          ("S6", "acquisition"), ("S6", "width"), ("S6", "strobe_type"), ("S6", "simulated"), ("S6", "sensor"),
-         ("S6", "elevation"))
+         ("S6", "elevation"), ("S9", "area"), ("S9", "number"), ("S9", "drop"))
 
 
 def codes():
@@ -192,10 +194,10 @@ def codes():
 
 
 def small_numbers():
-    """Every value of Mode 1, strobe number, site and age."""
+    """Every value of Mode 1, strobe number, a strobe's site and an area's, and age."""
     cases = []
     for kind, word, which, other in (("S3", "mode1", 2, "S8+"), ("S6", "number", 1, "S4"), ("S6", "site", 2, "S6"),
-                                     ("S6", "age", 1, "S8")):
+                                     ("S6", "age", 1, "S8"), ("S9", "site", 1, "S9"), ("S9", "site", 2, "S9")):
         first, last = next((first, last) for name, first, last in link1.FIELDS[kind] if name == word)
         pairs = [pair_of(message(kind, **{word: value}), which, other) for value in range(2 ** (last - first + 1))]
         cases += opens([image(*pair) for pair in pairs]) + closes(pairs[::3])
@@ -215,7 +217,7 @@ def signed_patterns():
     return cases
 
 
-# 01 'Messages', Blank, S.0 and S.3.
+# 01 'Messages', Blank, S.0, S.3 and spare bits.
 
 def test_message():
     """The test message with each of its bits turned, first and second."""
@@ -255,12 +257,18 @@ def modes_closed():
 
 
 def spare_bits():
-    """Each spare bit of S.3 and every two of them, by themselves and with every mode present."""
+    """Each spare bit of S.3 and of S.9 and every two, by themselves, with every mode present, with every field full."""
     full = message("S3", mode1=0x15, mode2=0x9c1, mode3a=0x2f4, request=2, validation=1)
-    images = [image(message("S4+"), full)]
+    images, spare = [image(message("S4+"), full)], link1.SPARE["S3"]
     for base in (message("S3"), full):
-        images += [turned_in_message(message("S4+"), base, 2, n) for n in link1.SPARE]
-        images += [turned_in_message(message("S8+"), base, 2, n, m) for n in link1.SPARE for m in link1.SPARE if n < m]
+        images += [turned_in_message(message("S4+"), base, 2, n) for n in spare]
+        images += [turned_in_message(message("S8+"), base, 2, n, m) for n in spare for m in spare if n < m]
+    full, spare = message("S9", area=3, site=63, number=3, drop=1, x=-1, y=-1), link1.SPARE["S9"]
+    images.append(image(full, full))
+    for base in (message("S9"), full):
+        for which in (1, 2):
+            images += [turned_in_message(base, base, which, n) for n in spare]
+            images += [turned_in_message(base, base, which, n, m) for n in spare for m in spare if n < m]
     return opens(images)
 
 
@@ -324,6 +332,10 @@ def lengths():
 
 # 01 'Orders of checks'.
 
+# What an area's corner is refused for, a field each: a number too wide for it.
+BAD_CORNERS = ({"area": 4}, {"site": 64}, {"number": 4}, {"x": 4096}, {"y": -4097})
+
+
 def faulty_image(faults):
     """An image with these faults of '2 3 4 5 6a 6b 7 8a 8b', a and b for the first message and the second."""
     first, second = message("S6", age=1), message("S6", age=2)
@@ -345,7 +357,7 @@ def faulty_image(faults):
 
 
 def order_of_opening():
-    """Opening: each fault, every two of them, all from each on, told as the first."""
+    """Opening: each fault, every two of them, all from each on, told as the first; S.9 with spare bits by each kind."""
     faults = ("2", "3", "4", "5", "6a", "6b", "7", "8a", "8b")
     chosen = [[fault] for fault in faults] + [[one, two] for at, one in enumerate(faults) for two in faults[at + 1:]]
     chosen += [list(faults[at:]) for at in range(len(faults) - 2)] + [[]]
@@ -363,26 +375,36 @@ def order_of_opening():
         for n in (40, 42, 43):
             bits[0][n] = bits[1][n] = 1
         cases.append(lines.open_image(word_image(*bits)))
+    others = [label for label in (*link1.LABELS.values(), 37) if label != 5]
+    for labels in [(5, 5)] + [(5, label) for label in others] + [(label, 5) for label in others]:
+        bits = label_bits(labels[0]), label_bits(labels[1])
+        for n in (10, 23):
+            bits[0][n] = bits[1][n] = 1
+        cases.append(lines.open_image(word_image(*bits)))
     return cases
 
 
 def order_of_closing():
     """Closing: every choice of its faults, told as the first, and the buffer stays."""
     cases = []
-    for kind, other, bad in (("S6", "S5", {"elevation": 13}), ("S4", "S3", {"quality": 4})):
+    bad = {"S3": {"mode2": 4096}, "S4": {"quality": 4}, "S5": {"strength": 1}, "S6": {"age": 64}, "S9": {"site": 64}}
+    for kind, faulty, right, wrong in (("S6", {"elevation": 13}, "S6", "S5"), ("S4", {"quality": 4}, "S6", "S3"),
+                                       ("S9", {"area": 4}, "S9", "S4"), ("S4", {"x": 4096}, "S4", "S9")):
         for chosen in range(16):
             length, wrong_pair, wrong_first, wrong_second = (chosen // 8, chosen // 4 % 2, chosen // 2 % 2, chosen % 2)
-            first = message(kind, **(bad if wrong_first else {}))
-            second = message(other, **({"S5": {"strength": 1}, "S3": {"mode2": 4096}}[other] if wrong_second else {}))
-            if not wrong_pair:
-                second = message("S6", **({"age": 64} if wrong_second else {}))
+            first = message(kind, **(faulty if wrong_first else {}))
+            other = wrong if wrong_pair else right
+            second = message(other, **(bad[other] if wrong_second else {}))
             cases.append(lines.close_pair(first, second, LENT[:(15, 17)[chosen % 2]] if length else LENT16))
-    bad_first = (message("S3", request=1), message("S5", altitude=512), message("S4+", x=4096), message("S8+", y=-4097))
+    bad_first = (message("S3", request=1), message("S5", altitude=512), message("S4+", x=4096), message("S8+", y=-4097),
+                 message("S9", number=4))
     bad_second = (message("S3", mode1=32), message("S5", vx=128), message("S4+", quality=4),
-                  message("S8+", number=32768))
+                  message("S8+", number=32768), message("S9", y=4096))
     cases += [lines.close_pair(first, second, LENT16) for first in bad_first for second in bad_second]
     cases += [lines.close_pair(message("Blank"), message("S4", x=4096), LENT16),
               lines.close_pair(message("S4", x=4096), message("S0"), LENT16)]
+    cases += [lines.close_pair(changed(FIRST["S9"], **first), changed(SECOND["S9"], **second), LENT16)
+              for first in ({}, *BAD_CORNERS) for second in ({}, *BAD_CORNERS)]
     return cases
 
 
@@ -401,7 +423,7 @@ def order_of_sending():
 # 01 'From levels to a frame', levels.
 
 HEARD = (T, N, P, Q, image(FIRST["S8+"], SECOND["S3"]), image(FIRST["S6"], SECOND["S4"]),
-         image(FIRST["S4"], SECOND["S6"]))
+         image(FIRST["S4"], SECOND["S6"]), image(FIRST["S9"], SECOND["S9"]))
 
 
 def levels_of(bits, last):
@@ -494,7 +516,7 @@ def frames_in_turn():
     """Two and three frames in turn, with no gap and with a gap of 1 to 9 ones or zeros."""
     cases = []
     for gap in range(10):
-        one, two = HEARD[gap % 7], HEARD[(gap + 3) % 7]
+        one, two = HEARD[gap % len(HEARD)], HEARD[(gap + 3) % len(HEARD)]
         for bit in (0, 1):
             cases.append(lines.hear(run_of(bits_of(one) + [bit] * gap + bits_of(two), gap // 2 % 2)))
     cases += [lines.hear(run_of(bits_of(P, P, Q), 1)), lines.hear(run_of(bits_of(T, N, T, N), 0)),
@@ -577,7 +599,7 @@ def aligned_captures():
     """A frame at each alignment behind ones and behind zeros, searched from around it and from around the end."""
     cases = []
     for before in range(0, 17):
-        bits = bits_of(HEARD[before % 7])
+        bits = bits_of(HEARD[before % len(HEARD)])
         for bit in (0, 1):
             capture = capture_of([bit] * before + bits, bit)
             starts = {0, max(before - 1, 0), before, before + 1, 8 * len(capture) - 128, 8 * len(capture) - 127,
@@ -590,7 +612,7 @@ def two_frame_captures():
     """Two frames in a capture, searched from around each of them."""
     cases = []
     for gap in range(0, 10):
-        one, two = HEARD[(gap + 1) % 7], HEARD[gap % 7]
+        one, two = HEARD[(gap + 1) % len(HEARD)], HEARD[gap % len(HEARD)]
         capture = capture_of([1] * gap + bits_of(one) + [gap % 2] * gap + bits_of(two))
         second = 2 * gap + 128
         cases += [lines.search(start, capture) for start in (0, gap, gap + 1, second - 1, second, second + 1)]
@@ -645,8 +667,19 @@ OFFSETS = tuple(-offset for offset in AROUND[:0:-1]) + AROUND
 
 
 def track(number, **fields):
-    """A message with a position, of one kind after the other."""
-    return message(TRACK_KINDS[number % 4], number=20311 + number, quality=number // 4 % 4, **fields)
+    """A track, of one kind after the other."""
+    return message(link1.TRACKS[number % 4], number=20311 + number, quality=number // 4 % 4, **fields)
+
+
+def corner(number, **fields):
+    """An area's corner, of one area after the other."""
+    return message("S9", area=number % 4, site=(number + 43) % 64, number=number // 4 % 4, drop=(number + 1) % 2,
+                   **fields)
+
+
+def shifts(number, x, y, x_offsets, y_offsets):
+    """A track and a corner at these steps, both shifted."""
+    return [lines.shift(given, x_offsets, y_offsets) for given in (track(number, x=x, y=y), corner(number, x=x, y=y))]
 
 
 def shifts_around_steps():
@@ -655,12 +688,10 @@ def shifts_around_steps():
     for at, step in enumerate(STEPS):
         for number, offset in enumerate(OFFSETS):
             turn, other = at + number, STEPS[(at + 4) % 9]
-            cases += [lines.shift(track(turn, x=step, y=other), [offset], []),
-                      lines.shift(track(turn, x=other, y=step), [], [offset])]
+            cases += shifts(turn, step, other, [offset], []) + shifts(turn, other, step, [], [offset])
             if number % 3 == 0:
-                cases.append(lines.shift(track(turn, x=step, y=STEPS[8 - at]), [offset], [-offset]))
-                cases.append(lines.shift(track(turn, x=step, y=STEPS[(at + 1) % 9]), [offset],
-                                         [OFFSETS[(number + 7) % len(OFFSETS)]]))
+                cases += shifts(turn, step, STEPS[8 - at], [offset], [-offset])
+                cases += shifts(turn, step, STEPS[(at + 1) % 9], [offset], [OFFSETS[(number + 7) % len(OFFSETS)]])
     return cases
 
 
@@ -669,11 +700,9 @@ def shifts_by_lists():
     cases = []
     for length in (*range(0, 10), 16):
         offsets = [(-1) ** place * (300 + 17 * place) for place in range(length)]
-        cases += [lines.shift(track(length, x=7, y=-7), offsets, []),
-                  lines.shift(track(length, x=7, y=-7), [], offsets),
-                  lines.shift(track(length, x=-100, y=100), offsets, offsets[:8]),
-                  lines.shift(track(length, x=-100, y=100), offsets[:8], offsets),
-                  lines.shift(track(length, x=0, y=0), [375] * length, [-375] * length)]
+        cases += shifts(length, 7, -7, offsets, []) + shifts(length, 7, -7, [], offsets)
+        cases += shifts(length, -100, 100, offsets, offsets[:8]) + shifts(length, -100, 100, offsets[:8], offsets)
+        cases += shifts(length, 0, 0, [375] * length, [-375] * length)
     far = 6144000
     lists = ([400, 400], [-400, -400], [100] * 4, [-100] * 4, [1] * 8, [374, 1], [-374, -1], [47] * 8, [-47] * 8,
              [376, -1], [-376, 1], [far, far, -far, -far], [-far, -far, far, far, 375], [far] * 4 + [-far] * 4,
@@ -682,8 +711,7 @@ def shifts_by_lists():
              [0] * 8)
     for number, offsets in enumerate(lists):
         for step in (0, 1, -1, 4095, -4096):
-            cases += [lines.shift(track(number, x=step, y=55), offsets, [750]),
-                      lines.shift(track(number, x=-66, y=step), [-750], offsets)]
+            cases += shifts(number, step, 55, offsets, [750]) + shifts(number, -66, step, [-750], offsets)
     return cases
 
 
@@ -697,37 +725,36 @@ def shift_limits():
             offsets[at] = offset
             if length > 1:
                 offsets[at - 1] = -6144000 if offset > 0 else 6144000
-            given = track(number, x=3, y=4)
-            cases += [lines.shift(given, offsets, []), lines.shift(given, [], offsets)]
+            cases += shifts(number, 3, 4, offsets, []) + shifts(number, 3, 4, [], offsets)
     for offsets in ([-2147483648, -2147483648], [2147483647, 2147483647, 2], [6144001, -6144001], [-6144001, 6144001]):
-        cases += [lines.shift(track(0, x=5, y=6), offsets, []), lines.shift(track(0, x=5, y=6), [], offsets)]
+        cases += shifts(0, 5, 6, offsets, []) + shifts(0, 5, 6, [], offsets)
     for start, offset in ((-4096, 6144000), (-4096, 6143250), (-4096, 6143624), (-4096, 6143625), (4095, -6143250),
                           (4095, -6143624), (4095, -6143625), (4095, -6144000), (0, 3071250), (0, 3071624),
                           (0, 3071625), (0, -3072000), (0, -3072374), (0, -3072375), (0, 3072000), (2000, -4500000),
                           (-2000, 4500374)):
-        cases += [lines.shift(track(1, x=start, y=1), [offset], []), lines.shift(track(2, x=2, y=start), [], [offset])]
+        cases += shifts(1, start, 1, [offset], []) + shifts(2, 2, start, [], [offset])
     stream = Stream(7)
     for number in range(60):
         steps = [stream.below(8192) - 4096 for _ in range(2)]
         lists = [[stream.below(2000000) - 1000000 for _ in range(stream.below(6))] for _ in range(2)]
-        cases.append(lines.shift(track(number, x=steps[0], y=steps[1]), *lists))
+        cases += shifts(number, *steps, *lists)
     return cases
 
 
 def shift_contents():
-    """Every kind shifted; every content that is refused in a message with a position."""
+    """Every kind shifted; each field of a message with a position at both ends of its range and beyond."""
     cases = []
     for kind in link1.KINDS:
         given = FIRST.get(kind) or SECOND[kind]
         cases += [lines.shift(given, x_offsets, y_offsets)
                   for x_offsets, y_offsets in (([750], [-1500]), ([], []), ([2147483647], [1] * 9))]
-    for kind in TRACK_KINDS:
-        for word, value in (("number", 32767), ("number", 32768), ("number", 65535), ("quality", 3), ("quality", 4),
-                            ("quality", 255), ("x", 4095), ("x", 4096), ("x", 32767), ("x", -4096), ("x", -4097),
-                            ("x", -32768), ("y", 4095), ("y", 4096), ("y", 32767), ("y", -4096), ("y", -4097),
-                            ("y", -32768)):
-            cases.append(lines.shift(message(kind, **{word: value}), [0], [1, -1]))
-    cases += [lines.shift(message("S4", x=4096), [-750], []), lines.shift(message("S8", y=-4097), [], [750])]
+    for kind in link1.WITH_POSITION:
+        for word, first, last in link1.FIELDS[kind]:
+            cases += [lines.shift(message(kind, **{word: value}), [0], [1, -1])
+                      for value in field_values(word, first, last)]
+    cases += [lines.shift(message("S4", x=4096), [-750], []), lines.shift(message("S8", y=-4097), [], [750]),
+              lines.shift(message("S9", x=4096), [-750], []), lines.shift(message("S9", y=-4097), [], [750])]
+    cases += [lines.shift(changed(FIRST["S9"], **bad), [6144001] * 9, [6144001] * 9) for bad in BAD_CORNERS]
     cases += [lines.shift(given, [750], []) for given in (message("S3", request=1), message("S5", strength=1),
                                                           message("S6", elevation=15))]
     return cases
@@ -747,12 +774,12 @@ def order_of_shifting():
                 offsets[axis] = [6144001] + offsets[axis]
             if "2 %s" % axis in some:
                 offsets[axis] = offsets[axis] + [0] * (9 - len(offsets[axis]))
-        given = track(number, x=4095, y=4095)
+        given = [track(number, x=4095, y=4095), corner(number, x=4095, y=4095)]
         if "8" in some:
-            given = changed(given, quality=5)
+            given = [changed(given[0], quality=5), changed(given[1], site=64)]
         if "11" in some:
-            given = message("S5", strength=1) if "8" in some else message("S6", age=3)
-        cases.append(lines.shift(given, offsets["X"], offsets["Y"]))
+            given = [message("S5", strength=1) if "8" in some else message("S6", age=3)]
+        cases += [lines.shift(one, offsets["X"], offsets["Y"]) for one in given]
     return cases
 
 
@@ -854,7 +881,7 @@ def wrong_numbers(kind, word):
         return "-32769", "32768"
     if word in ("emergency", "validation", "simulated", "drop", "acquisition"):
         return "-1", "2", "01"
-    if word in WIDE or word == "number" and kind != "S6":
+    if word in WIDE or word == "number" and kind in link1.TRACKS:
         return "-1", "65536", "01"
     return "-1", "256", "01"
 
@@ -862,7 +889,7 @@ def wrong_numbers(kind, word):
 def odd_messages():
     """Messages with a word or number that is wrong, a part missing or too many."""
     texts = []
-    for kind in ("S3", "S4", "S4+", "S5", "S6", "S8", "S8+"):
+    for kind in ("S3", "S4", "S4+", "S5", "S6", "S8", "S8+", "S9"):
         words = lines.message_words(FIRST.get(kind) or SECOND[kind]).split()
         texts += [" ".join(words[:length]) for length in range(1, len(words))] + [" ".join(words + ["0"])]
         for at in range(1, len(words), 2):
@@ -872,18 +899,21 @@ def odd_messages():
             if words[at] not in link1.PRESENCE:
                 texts.append(" ".join(words[:at + 1] + ["absent"] + words[at + 2:]))
         texts.append(" ".join(words[:1] + words[3:5] + words[1:3] + words[5:]))
-    texts += ["", "S9", "S.4", "s4 number 0 quality 0 x 0 y 0", "S4 number 0 quality 0 y 0 x 0", "Blank 0", "S0 S0",
+    texts += ["", "S9+", "S.4", "s4 number 0 quality 0 x 0 y 0", "S4 number 0 quality 0 y 0 x 0", "Blank 0", "S0 S0",
               "blank", "S3 mode3a Absent request 0 emergency 0 validation 0 mode1 absent mode2 absent",
-              "S4+number 0 quality 0 x 0 y 0", "S5+ altitude 0", "Blank Blank"]
+              "S4+number 0 quality 0 x 0 y 0", "S5+ altitude 0", "Blank Blank",
+              "S9+ area 0 site 0 number 0 drop 0 x 0 y 0", "S.9 area 0 site 0 number 0 drop 0 x 0 y 0",
+              "s9 area 0 site 0 number 0 drop 0 x 0 y 0", "S9 area 0 number 0 site 0 drop 0 x 0 y 0",
+              "S9 area 0 site 0 number 0 drop 0 y 0 x 0", "S9 number 0 quality 0 x 0 y 0"]
     return [lines.not_understood("kind_of" + (" " + text if text else "")) for text in texts]
 
 
 def odd_lines():
     """Lines that are not understood for other reasons; the program goes on behind each."""
-    s4 = "S4 number 1 quality 1 x 1 y 1"
+    s4, s9 = "S4 number 1 quality 1 x 1 y 1", "S9 area 1 site 1 number 1 drop 1 x 1 y 1"
     texts = ["hello", "Verdict x00", "VERDICT x00", "verdicts x00", "verdictx00", "openx00", "?", "0", " ", "  ",
              " verdict x00", "verdict x00 ", "verdict  x00", "verdict x00  x00", " # a note with a space before it",
-             "label", "label S4 S4", "label S9", "label S.4", "label s4", "label 17", "label Blank ", "kind_named",
+             "label", "label S4 S4", "label S9+", "label S.4", "label s4", "label 17", "label Blank ", "kind_named",
              "kind_named 1 2", "kind_named x01", "kind_of", "numbers 0", "numbers ", "Numbers", "altitude",
              "altitude 1 2", "altitude  1", "altitude x01", "refusal_of", "refusal_of 1 1", "refusal_at",
              "refusal_at 1", "refusal_at 1 2 3", "send", "send 0", "send x00", "resume", "resume 0", "resume 0 0",
@@ -904,12 +934,15 @@ def odd_lines():
              "\xc3\xa9", "\xe2\x82\xac 1", "verdict\tx00", "\tverdict x00", "verdict x00\r", "verdict\x00x00",
              "verdict x00\x00", "label S4\x00", "label S4\r", "hear :0\x7f1", "hear :0\xff", "numbers\x00", "numbers\r",
              "altitude 1\x0b", "altitude \xb2", "\r", "\x1a", "\x1b[0m", "label S4\xa0", "kind_named\xa01",
-             "verdict :" + "0" * 8184, "x" * 8193, "numbers" + " " * 8186]
+             "verdict :" + "0" * 8184, "x" * 8193, "numbers" + " " * 8186, "label S9 S9", "label S.9", "label s9",
+             "label 5", "close S0 S9+ x00*16", "close S9 S9 x00*16", "close " + s9, "close %s x00*16" % s9,
+             "close %s S9 x00*16" % s9, "close S9 %s x00*16" % s9, "shift S9 by and", "shift " + s9,
+             "shift %s by 1" % s9, "shift %s and" % s9]
     cases = []
     for number, text in enumerate(texts):
         cases.append(lines.not_understood(text))
         if number % 8 == 7 or len(text) > 8000:
-            cases.append(lines.label(link1.KINDS[number % 9]))
+            cases.append(lines.label(link1.KINDS[number % len(link1.KINDS)]))
     return cases
 
 

@@ -1,4 +1,4 @@
-"""Link 1 read by bit numbers: 01 is the scope paper, 001 is ATDLP-5.01.
+"""Link 1 read by bit numbers: 01 is the scope paper, 02 the change requests, 001 is ATDLP-5.01.
 
 The bits of a message are a dict from bit number 1 to 49, those of a frame a list from 1 to 128 (entry 0 is not used).
 A message is its kind and a dict from each field's word to its number; an absent mode is None.
@@ -10,13 +10,15 @@ GOOD = (0, 0)
 # 01 'Numbers a caller may get back', success first.
 NUMBERS = (0, 1, 2, 3, 4, 5, 6, 7, 8, 9, 10, 11)
 
-# 01 'On board and left ashore'.
-KINDS = ("Blank", "S0", "S3", "S4", "S4+", "S5", "S6", "S8", "S8+")
+# 01 'On board and left ashore'; 02 Item 1: S.9 joins the kinds.
+KINDS = ("Blank", "S0", "S3", "S4", "S4+", "S5", "S6", "S8", "S8+", "S9")
 
-# 01 'Messages', labels as numbers; 001 Annex A Appendix 5 Table A5-1 writes them in octal: 00 56 23 21 61 22 24 25 65.
-LABELS = {"Blank": 0, "S0": 46, "S3": 19, "S4": 17, "S4+": 49, "S5": 18, "S6": 20, "S8": 21, "S8+": 53}
+# 01 'Messages', labels as numbers; 001 Annex A Appendix 5 Table A5-1 writes them in octal: 00 56 23 21 61 22 24 25 65,
+# and 05 for S.9.
+LABELS = {"Blank": 0, "S0": 46, "S3": 19, "S4": 17, "S4+": 49, "S5": 18, "S6": 20, "S8": 21, "S8+": 53, "S9": 5}
 
-# 01 'Messages'; 001 Annex C Appendix 2 Figures C2-5 to C2-8 and C2-10: each field's word, first bit, last bit.
+# 01 'Messages'; 001 Annex C Appendix 2 Figures C2-5 to C2-8, C2-10 and C2-11: each field's word, first bit, last bit.
+# 02 Item 1, S.9; 001 Annex C Appendix 3 paragraph 11: area number, origin site, corner number, drop indicator, corner.
 TRACK_FIELDS = (("number", 7, 21), ("quality", 22, 23), ("x", 24, 36), ("y", 37, 49))
 FIELDS = {
     "Blank": (), "S0": (), "S4": TRACK_FIELDS, "S4+": TRACK_FIELDS, "S8": TRACK_FIELDS, "S8+": TRACK_FIELDS,
@@ -28,39 +30,44 @@ FIELDS = {
     "S6": (("acquisition", 7, 7), ("width", 8, 10), ("strobe_type", 11, 12), ("simulated", 13, 13),
            ("azimuth", 14, 25), ("site", 26, 31), ("sensor", 32, 34), ("number", 35, 39), ("elevation", 40, 43),
            ("age", 44, 49)),
+    "S9": (("area", 7, 8), ("site", 11, 16), ("number", 17, 18), ("drop", 19, 19), ("x", 24, 36), ("y", 37, 49)),
 }
 
-# 01 'Messages': X, Y and the velocities are two's complement; 001 Annex C Appendix 3 paragraphs 6.4, 6.5, 7.9, 7.12.
+# 01 'Messages': X, Y and the velocities are two's complement; 001 Annex C Appendix 3 paragraphs 6.4, 6.5, 7.9, 7.12;
+# 11.8 and 11.9 send the corner's X and Y to 6.4 and 6.5.
 SIGNED = ("x", "y", "vx", "vy")
 
 # 01 'Messages', S.3: the presence bit of each mode; 001 Annex C Appendix 3 paragraph 5.6.
 PRESENCE = {"mode1": 25, "mode2": 26, "mode3a": 27}
 
-# 01 'Messages', S.3: spare bits; 001 Annex C Appendix 5 Table C5-1 (no other kind here has any).
-SPARE = (7, 8, 29, 30, 36, 37)
+# 01 'Messages': spare bits are zero; 001 Annex C Appendix 5 Table C5-1 (no other kind here has any), S.9's also
+# Appendix 3 paragraphs 11.3 and 11.7.
+SPARE = {"S3": (7, 8, 29, 30, 36, 37), "S9": (9, 10, 20, 21, 22, 23)}
 
 # 01 'Messages': codes that are not used; 001 Annex C Appendix 3 paragraphs 5.4, 7.3, 8.10.
 NOT_USED = {"request": (1, 3, 5, 6, 7), "strength": (1,), "elevation": (13, 14, 15)}
 
 # 01 'Which pairs may share a frame'; 001 Annex B Appendix 1 paragraph 3 (Table B2-1 also has Blank with Blank).
-# Second:   Blank S0 S3 S4 S4+ S5 S6 S8 S8+
+# 02 Item 1: S.9 only as S.9 followed by S.9; 001 Annex B Appendix 1 paragraph 6 (Table B2-1 has it behind S.9+ only).
+# Second:   Blank S0 S3 S4 S4+ S5 S6 S8 S8+ S9
 PAIRS = {
-    "Blank": "- - - - - - - - -",
-    "S0":    "- X - - - - - - -",
-    "S3":    "- - - - - - - - -",
-    "S4":    "X - - X - - X X -",
-    "S4+":   "- - X - - X - - -",
-    "S5":    "- - - - - - - - -",
-    "S6":    "X - - X - - X X -",
-    "S8":    "X - - X - - X X -",
-    "S8+":   "- - X - - X - - -",
+    "Blank": "- - - - - - - - - -",
+    "S0":    "- X - - - - - - - -",
+    "S3":    "- - - - - - - - - -",
+    "S4":    "X - - X - - X X - -",
+    "S4+":   "- - X - - X - - - -",
+    "S5":    "- - - - - - - - - -",
+    "S6":    "X - - X - - X X - -",
+    "S8":    "X - - X - - X X - -",
+    "S8+":   "- - X - - X - - - -",
+    "S9":    "- - - - - - - - - X",
 }
 
 def pair_is_legal(first, second):
     return PAIRS[first].split()[KINDS.index(second)] == "X"
 
 def kind_named(label):
-    """01 'On board': other labels are refused 6."""
+    """01 'On board': other labels are refused 6, S.9+ (37) among them."""
     named = [kind for kind in KINDS if LABELS[kind] == label]
     return (GOOD, named[0]) if named else ((6, 0), None)
 
@@ -125,12 +132,10 @@ def bits_are_good(kind, bits):
     if kind == "S0":
         return all(read_bits(bits, 7 * group + 1, 7 * group + 6) == 46 and bits[7 * group + 7] == 0
                    for group in range(7))
-    if kind == "S3":
-        if any(bits[n] == 1 for n in SPARE):
-            return False
-        return all(word not in PRESENCE or bits[PRESENCE[word]] == 1 or read_bits(bits, first, last) == 0
-                   for word, first, last in FIELDS["S3"])
-    return True
+    if any(bits[n] == 1 for n in SPARE.get(kind, ())):
+        return False
+    return all(word not in PRESENCE or bits[PRESENCE[word]] == 1 or read_bits(bits, first, last) == 0
+               for word, first, last in FIELDS[kind])
 
 def read_message(kind, bits):
     fields = {}
@@ -267,6 +272,10 @@ def search(capture, start):
             return GOOD, position
     return (10, 0), None
 
+# 01 'The shift', of a track's position; 02 Item 1: the corner is shifted as a track is, 11 is not given for it.
+TRACKS = ("S4", "S4+", "S8", "S8+")
+WITH_POSITION = TRACKS + ("S9",)
+
 def nearest_step(feet):
     """01 'The shift': the nearest multiple of 750 feet, a half goes away from zero."""
     steps = (abs(feet) + 375) // 750
@@ -275,7 +284,7 @@ def nearest_step(feet):
 def shift(message, x_offsets, y_offsets):
     """01 'Orders of checks': 11, 8, 2 X, 2 Y, 9 on X offsets, 9 on Y offsets, 9 on X result, 9 on Y result."""
     kind, fields = message
-    if kind not in ("S4", "S4+", "S8", "S8+"):
+    if kind not in WITH_POSITION:
         return (11, 0), message
     if not content_is_good(message):
         return (8, 1), message

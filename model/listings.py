@@ -23,7 +23,7 @@ def listing(log):
 
 def mixed():
     unknown = link1.message_bits(SECOND["S6"])
-    link1.write_bits(unknown, 1, 6, 5)
+    link1.write_bits(unknown, 1, 6, 37)
     return [T, image(FIRST["S6"], SECOND["S6"]), Q, turned(P, 8), turned(P, 125),
             word_image(link1.message_bits(FIRST["S4"]), unknown),
             turned_in_message(FIRST["S8+"], SECOND["S3"], 2, 21), image(FIRST["S4"], SECOND["S6"])]
@@ -45,7 +45,8 @@ def refusals():
                if (first, second) not in LEGAL_PAIRS]
     images += [turned_in_message(*both, which, n) for which in (1, 2) for n in range(1, 50)]
     images += [turned_in_message(*blank, 2, n) for n in range(1, 50)]
-    images += [turned_in_message(FIRST["S4+"], SECOND["S3"], 2, n) for n in link1.SPARE]
+    images += [turned_in_message(FIRST["S4+"], SECOND["S3"], 2, n) for n in link1.SPARE["S3"]]
+    images += [turned_in_message(FIRST["S9"], SECOND["S9"], which, n) for which in (1, 2) for n in link1.SPARE["S9"]]
     images += [image(message("S4+"), message("S3", request=code)) for code in link1.NOT_USED["request"]]
     images += [image(message("S8+"), message("S5", strength=code)) for code in link1.NOT_USED["strength"]]
     for code in link1.NOT_USED["elevation"]:

@@ -14,8 +14,6 @@ LENT = bytes(0x11 * n % 256 for n in range(1, 257))
 LEGAL_PAIRS = tuple((first, second) for first in link1.KINDS for second in link1.KINDS
                     if link1.pair_is_legal(first, second))
 
-TRACK_KINDS = ("S4", "S4+", "S8", "S8+")
-
 
 def message(kind, **fields):
     """A message with these fields; the others are zero, the modes absent."""
@@ -38,6 +36,7 @@ FIRST = {
                   number=0x13, elevation=11, age=0x1d),
     "S8": message("S8", number=0x61a7, quality=2, x=3389, y=-1423),
     "S8+": message("S8+", number=0x35c9, quality=1, x=-947, y=2903),
+    "S9": message("S9", area=2, site=0x35, number=1, drop=1, x=1741, y=-3307),
 }
 SECOND = {
     "Blank": message("Blank"),
@@ -49,6 +48,7 @@ SECOND = {
     "S6": message("S6", acquisition=0, width=6, strobe_type=1, simulated=1, azimuth=0x4d6, site=0x13, sensor=1,
                   number=0x0d, elevation=4, age=0x32),
     "S8": message("S8", number=0x5b32, quality=1, x=2237, y=-3877),
+    "S9": message("S9", area=1, site=0x0b, number=2, drop=0, x=-2459, y=1093),
 }
 
 

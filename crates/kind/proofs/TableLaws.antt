@@ -1,12 +1,12 @@
 -- The kinds' tables are lawful: as long as they say, 43 bits wide, with few codes; a row by its number. Assumes nothing.
-use mathlib.Core.Path.{_≡_, refl, ap, ap₂, _∙_}
+use mathlib.Core.Path.{_≡_, refl, sym, ap, ap₂, _∙_}
 use mathlib.Core.Bool.{Bool, true}
 use mathlib.Core.List.{List, [], _∷_, map}
 use Prim.Native.Nat.{ℕ, zero, suc, _-_, _≤_, _<_}
 use native.Mathlib.Omega.{arith}
 use native.Mathlib.Nat.{le-of-suc-le-suc, not-suc-le-zero}
 use borrow.Author.Tests.{leb-true, ltb-true, eqb-true}
-use lib.Dec.{T, leb, ltb, eqb, lit<}
+use lib.Dec.{T, leb, ltb, eqb}
 use lib.ListN.{length, take, getD}
 use Rattle.bits.specs.Tests.{both}
 use Rattle.bits.specs.Layout.{Field, Values}
@@ -15,7 +15,7 @@ use Rattle.kind.specs.Layouts.{allKinds, numberOf, labelOf, layoutOf}
 use Rattle.kind.specs.Tables.{padded, tableOf}
 use Rattle.kind.specs.declared.Kind.{Kind}
 use Rattle.kind.specs.declared.Table.{Table}
-use Rattle.kind.specs.declared.Kind.the-variants.{Blank, S0, S3, S4, S4Plus, S5, S6, S8, S8Plus}
+use Rattle.kind.specs.declared.Kind.the-variants.{Blank, S0, S3, S4, S4Plus, S5, S6, S8, S8Plus, S9}
 use Rattle.bits.proofs.TestLaws.{both-true, to-T}
 use Rattle.bits.proofs.RuleLaws.{allFew}
 
@@ -37,6 +37,36 @@ pub length-raw : (fs : List Field) (vs : Values fs) → length (rawOf fs vs) ≡
 length-raw [] vs = refl
 length-raw (f ∷ fs) vs = ap suc (length-raw fs (vs .1))
 
+-- ---- a table with a row for each kind, by the kind's number
+
+pub row-at : {A : Type 0} (f : Kind → A) (k : Kind) (d : A) → getD (map f allKinds) (numberOf k) d ≡ f k
+row-at f Blank d = refl
+row-at f S0 d = refl
+row-at f S3 d = refl
+row-at f S4 d = refl
+row-at f S4Plus d = refl
+row-at f S5 d = refl
+row-at f S6 d = refl
+row-at f S8 d = refl
+row-at f S8Plus d = refl
+row-at f S9 d = refl
+
+-- ---- one test of all kinds, and what it says of each
+
+abbrev pub all : (Kind → Bool) → List Kind → Bool
+all test [] = true
+all test (k ∷ ks) = both (test k) (all test ks)
+
+passes : (test : Kind → Bool) (ks : List Kind) → all test ks ≡ true → (n : ℕ) → getD (map test ks) n true ≡ true
+passes test [] e n = refl
+passes test (k ∷ ks) e zero = both-true {a = test k} {b = all test ks} e .0
+passes test (k ∷ ks) e (suc n) = passes test ks (both-true {a = test k} {b = all test ks} e .1) n
+
+pub each : (test : Kind → Bool) → all test allKinds ≡ true → (k : Kind) → test k ≡ true
+each test e k = sym (row-at test k true) ∙ passes test allKinds e (numberOf k)
+
+-- ---- the layouts
+
 -- what is computed of each kind
 abbrev lawful : Kind → Bool
 lawful k =
@@ -44,15 +74,7 @@ lawful k =
     (both (leb (length (layoutOf k)) 13) (both (eqb (total (widthsOf (layoutOf k))) 43) (allFew (layoutOf k))))
 
 laid : (k : Kind) → lawful k ≡ true
-laid Blank = refl
-laid S0 = refl
-laid S3 = refl
-laid S4 = refl
-laid S4Plus = refl
-laid S5 = refl
-laid S6 = refl
-laid S8 = refl
-laid S8Plus = refl
+laid = each lawful refl
 
 module _ (k : Kind) where
   parts : (ltb (labelOf k) 64 ≡ true) × (leb (length (layoutOf k)) 13 ≡ true) × (eqb (total (widthsOf (layoutOf k))) 43 ≡ true) × (allFew (layoutOf k) ≡ true)
@@ -110,27 +132,3 @@ module _ (t : Table) (k : Kind) (e : t ≡ tableOf (layoutOf k)) (vs : Values (l
 
   pub values-end : t .count ≤ length l
   values-end = part-ends k (t .count) l (rawOf (layoutOf k) vs) (counted t k e) full (length-raw (layoutOf k) vs)
-
--- ---- a table with a row for each kind, by the kind's number
-
-pub row-at : {A : Type 0} (f : Kind → A) (k : Kind) (d : A) → getD (map f allKinds) (numberOf k) d ≡ f k
-row-at f Blank d = refl
-row-at f S0 d = refl
-row-at f S3 d = refl
-row-at f S4 d = refl
-row-at f S4Plus d = refl
-row-at f S5 d = refl
-row-at f S6 d = refl
-row-at f S8 d = refl
-row-at f S8Plus d = refl
-
-pub number-lt : (k : Kind) → numberOf k < length allKinds
-number-lt Blank = lit< tt
-number-lt S0 = lit< tt
-number-lt S3 = lit< tt
-number-lt S4 = lit< tt
-number-lt S4Plus = lit< tt
-number-lt S5 = lit< tt
-number-lt S6 = lit< tt
-number-lt S8 = lit< tt
-number-lt S8Plus = lit< tt

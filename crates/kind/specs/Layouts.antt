@@ -1,14 +1,14 @@
--- The kinds, their labels and their layouts (001, Annex A, Appendix 5, and Annex C, Appendices 2 and 3; 01, 'Messages'). A layout begins
--- above the label, at bit 7.
+-- The kinds, their labels and their layouts (001, Annex A, Appendix 5, and Annex C, Appendices 2 and 3; 01, 'Messages'; 02, item 1). A layout
+-- begins above the label, at bit 7.
 use mathlib.Core.List.{List, [], _∷_}
 use Prim.Native.Nat.{ℕ}
 use Rattle.bits.specs.Layout.{Field, fixed, number, code, flag, signed}
 use Rattle.kind.specs.declared.Kind.{Kind}
-use Rattle.kind.specs.declared.Kind.the-variants.{Blank, S0, S3, S4, S4Plus, S5, S6, S8, S8Plus}
+use Rattle.kind.specs.declared.Kind.the-variants.{Blank, S0, S3, S4, S4Plus, S5, S6, S8, S8Plus, S9}
 
 -- the kinds in the order of their numbers
 abbrev pub allKinds : List Kind
-allKinds = Blank ∷ S0 ∷ S3 ∷ S4 ∷ S4Plus ∷ S5 ∷ S6 ∷ S8 ∷ S8Plus ∷ []
+allKinds = Blank ∷ S0 ∷ S3 ∷ S4 ∷ S4Plus ∷ S5 ∷ S6 ∷ S8 ∷ S8Plus ∷ S9 ∷ []
 
 abbrev pub numberOf : Kind → ℕ
 numberOf Blank = 0
@@ -20,6 +20,7 @@ numberOf S5 = 5
 numberOf S6 = 6
 numberOf S8 = 7
 numberOf S8Plus = 8
+numberOf S9 = 9
 
 -- bits 1 to 6 (001, Annex A, Appendix 5, Table A5-1)
 abbrev pub labelOf : Kind → ℕ
@@ -32,6 +33,7 @@ labelOf S5 = 18
 labelOf S6 = 20
 labelOf S8 = 21
 labelOf S8Plus = 53
+labelOf S9 = 5
 
 -- house rule: spare bits are zero
 abbrev pub spare : ℕ → Field
@@ -72,6 +74,10 @@ strobeLayout =
     flag ∷ number 3 ∷ number 2 ∷ flag ∷ number 12 ∷ number 6 ∷ number 3 ∷ number 5
     ∷ code 4 (13 ∷ 14 ∷ 15 ∷ []) ∷ number 6 ∷ []
 
+-- paragraph 11: 7-8 area number, 11-16 origin site, 17-18 corner number, 19 drop, 24-36 X, 37-49 Y; 9, 10, 20 to 23 spare
+abbrev pub cornerLayout : List Field
+cornerLayout = number 2 ∷ spare 2 ∷ number 6 ∷ number 2 ∷ flag ∷ spare 4 ∷ signed 12 ∷ signed 12 ∷ []
+
 abbrev pub layoutOf : Kind → List Field
 layoutOf Blank = blankLayout
 layoutOf S0 = testLayout
@@ -82,6 +88,7 @@ layoutOf S5 = amplifyingLayout
 layoutOf S6 = strobeLayout
 layoutOf S8 = trackLayout
 layoutOf S8Plus = trackLayout
+layoutOf S9 = cornerLayout
 
 -- all 49 bits: the label and the fields above it
 abbrev pub wholeOf : Kind → List Field

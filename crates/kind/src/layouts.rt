@@ -65,6 +65,13 @@ const STROBE: Table = Table {
     rules: [0, 0, 0, 0, 0, 0, 0, 0, 0b1110_0000_0000_0000, 0, 0, 0, 0],
 };
 
+// S.9: area number, spare, site, corner number, drop, spare, X, Y.
+const CORNER: Table = Table {
+    count: 8,
+    widths: [2, 2, 6, 2, 1, 4, 13, 13, 0, 0, 0, 0, 0],
+    rules: [0, FIXED, 0, 0, 0, FIXED, 0, 0, 0, 0, 0, 0, 0],
+};
+
 // The layouts in the order of the kinds' numbers.
 const LAYOUTS: [Table; crate::KINDS] = [
     BLANK,
@@ -76,6 +83,7 @@ const LAYOUTS: [Table; crate::KINDS] = [
     STROBE,
     TRACK,
     TRACK,
+    CORNER,
 ];
 
 // The layout of a kind.

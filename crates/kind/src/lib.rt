@@ -22,6 +22,7 @@ pub enum Kind {
     S6,
     S8,
     S8Plus,
+    S9,
 }
 
 // The kind that a label names.
@@ -38,7 +39,7 @@ pub struct Table {
 }
 
 // How many kinds there are.
-pub const KINDS: usize = 9;
+pub const KINDS: usize = 10;
 
 // The number of a kind, from 0: its place in every table that has a row for each kind.
 pub fn number(k: Kind) -> usize
@@ -54,11 +55,12 @@ pub fn number(k: Kind) -> usize
         Kind::S6 => 6,
         Kind::S8 => 7,
         Kind::S8Plus => 8,
+        Kind::S9 => 9,
     }
 }
 
 // The labels in the order of the kinds' numbers.
-const LABELS: [u8; KINDS] = [0, 46, 19, 17, 49, 18, 20, 21, 53];
+const LABELS: [u8; KINDS] = [0, 46, 19, 17, 49, 18, 20, 21, 53, 5];
 
 // The label of a kind.
 pub fn label(k: Kind) -> u8
@@ -80,6 +82,7 @@ fn find_label(label: u64) -> Labelled
         20 => Labelled::Known(Kind::S6),
         21 => Labelled::Known(Kind::S8),
         53 => Labelled::Known(Kind::S8Plus),
+        5 => Labelled::Known(Kind::S9),
         _ => Labelled::Unknown,
     }
 }

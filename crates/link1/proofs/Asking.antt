@@ -124,6 +124,7 @@ trackIn (m.S5 a) = 0
 trackIn (m.S6 s) = 0
 trackIn (m.S8 t) = t .number
 trackIn (m.S8Plus t) = t .number
+trackIn (m.S9 c) = 0
 
 abbrev nameOf : ℕ → List ℕ → Came
 nameOf number b = tell (textRefusal number b) (buffer (textAfter number b))

@@ -4,7 +4,7 @@ use mathlib.Core.Path.{_≡_, refl}
 use mathlib.Core.Bool.{true, false}
 use mathlib.Core.List.{List, [], _∷_, _++_, map}
 use Prim.Native.Nat.{ℕ, _+_, _-_}
-use lib.IntN.{pos, negsuc}
+use lib.IntN.{ℤ, pos, negsuc}
 use lib.ListN.{replicate, take, getD}
 use Rattle.bits.specs.Tests.{every}
 use Rattle.bits.specs.Numbers.{numOf, sumOf, tab}
@@ -26,6 +26,7 @@ use Rattle.message.specs.declared.Iff.{Iff}
 use Rattle.message.specs.declared.Track.{Track}
 use Rattle.message.specs.declared.Amplifying.{Amplifying}
 use Rattle.message.specs.declared.Strobe.{Strobe}
+use Rattle.message.specs.declared.Corner.{Corner}
 use Rattle.message.specs.declared.Message.{Message}
 use Rattle.message.specs.declared.Message.the-variants as m
 use Rattle.track.specs.TrackText.{trackRefusal, trackedOf, textRefusal, textAfter}
@@ -37,10 +38,10 @@ use Rattle.link1.proofs.Asking.{verdict-of, open-image, kind-named, clo
 use Rattle.link1.proofs.Asking.{nothing, pair, buffer, heard, message, value, told, answer, Row, _⇒_, answers, expected, track, at, octets, levels}
 use Rattle.link1.proofs.Examples.{imageT}
 
--- ---- labels and bit places (01, 'Messages')
+-- ---- labels and bit places (01, 'Messages'; S.9: 02, item 1)
 
--- Blank 0, S.0 46, S.3 19, S.4 17, S.4+ 49, S.5 18, S.6 20, S.8 21, S.8+ 53
-pub labels-are : map labelOf allKinds ≡ 0 ∷ 46 ∷ 19 ∷ 17 ∷ 49 ∷ 18 ∷ 20 ∷ 21 ∷ 53 ∷ []
+-- Blank 0, S.0 46, S.3 19, S.4 17, S.4+ 49, S.5 18, S.6 20, S.8 21, S.8+ 53, S.9 5
+pub labels-are : map labelOf allKinds ≡ 0 ∷ 46 ∷ 19 ∷ 17 ∷ 49 ∷ 18 ∷ 20 ∷ 21 ∷ 53 ∷ 5 ∷ []
 labels-are = refl
 
 -- a field's first and last bit
@@ -59,7 +60,7 @@ placesOf kind = placesFrom 7 (layoutOf kind)
 abbrev trackPlaces : List (List ℕ)
 trackPlaces = 7 to 21 ∷ 22 to 23 ∷ 24 to 36 ∷ 37 to 49 ∷ []
 
--- Blank, S.0, S.3, S.4, S.4+, S.5, S.6, S.8, S.8+
+-- Blank, S.0, S.3, S.4, S.4+, S.5, S.6, S.8, S.8+, S.9
 pub places-are :
     map placesOf allKinds
     ≡ (7 to 49 ∷ [])
@@ -71,6 +72,7 @@ pub places-are :
     ∷ (7 to 7 ∷ 8 to 10 ∷ 11 to 12 ∷ 13 to 13 ∷ 14 to 25 ∷ 26 to 31 ∷ 32 to 34 ∷ 35 to 39 ∷ 40 to 43 ∷ 44 to 49 ∷ [])
     ∷ trackPlaces
     ∷ trackPlaces
+    ∷ (7 to 8 ∷ 9 to 10 ∷ 11 to 16 ∷ 17 to 18 ∷ 19 to 19 ∷ 20 to 23 ∷ 24 to 36 ∷ 37 to 49 ∷ [])
     ∷ []
 places-are = refl
 
@@ -150,6 +152,13 @@ strobeB =
       age = 33;
     }
 
+-- a corner at x and y, and another
+abbrev cornerA : ℤ → ℤ → Corner
+cornerA x y = record { area = 2; site = 37; number = 1; drop = true; x = record { 0 = x }; y = record { 0 = y } }
+
+abbrev cornerB : Corner
+cornerB = record { area = 1; site = 22; number = 3; drop = false; x = record { 0 = pos 77 }; y = record { 0 = negsuc 3999 } }
+
 -- their images: the octets of the first message behind those of the start group, of the second, and the check group's
 abbrev imageAB : List ℕ
 imageAB = 0 ∷ 0xc5 ∷ 0x9c ∷ 0x86 ∷ 0xce ∷ 0xcd ∷ 0xff ∷ 0xba ∷ 0xd5 ∷ 0x84 ∷ 0xb9 ∷ 0xb6 ∷ 0xa0 ∷ 0x81 ∷ 0xc1 ∷ 0xd9 ∷ []
@@ -169,7 +178,11 @@ imageAmplifyingA = 0 ∷ 0xc7 ∷ 0x9c ∷ 0x86 ∷ 0xce ∷ 0xcd ∷ 0xff ∷ 0
 abbrev imageAmplifyingB : List ℕ
 imageAmplifyingB = 0 ∷ 0xd7 ∷ 0x84 ∷ 0xb9 ∷ 0xb6 ∷ 0xa0 ∷ 0x81 ∷ 0xc1 ∷ 0xa5 ∷ 0xb2 ∷ 0xb3 ∷ 0x96 ∷ 0x9e ∷ 0xa5 ∷ 0xb7 ∷ 0xfd ∷ []
 
--- an image of two messages' octets and a check group; a message that is but a label; an S.5 of strength 1; an S.6 of elevation 13
+abbrev imageCorners : List ℕ
+imageCorners = 0 ∷ 0xd0 ∷ 0xca ∷ 0xb4 ∷ 0x8e ∷ 0xcd ∷ 0xff ∷ 0xba ∷ 0xd1 ∷ 0x86 ∷ 0xd8 ∷ 0x96 ∷ 0xa0 ∷ 0x81 ∷ 0xc1 ∷ 0xaf ∷ []
+
+-- an image of two messages' octets and a check group; a message that is but a label; an S.5 of strength 1; an S.6 of elevation 13;
+-- an S.9 with spare bit 20 or 9
 abbrev image : List ℕ → List ℕ → ℕ → List ℕ
 image first second check = 0 ∷ first ++ second ++ check ∷ []
 
@@ -181,6 +194,12 @@ strength1 = 0xa4 ∷ 0x80 ∷ 0xa0 ∷ replicate 4 0x80
 
 abbrev elevation13 : List ℕ
 elevation13 = 0x94 ∷ replicate 4 0x80 ++ 0x85 ∷ 0xc0 ∷ []
+
+abbrev spare20 : List ℕ
+spare20 = 0xd0 ∷ 0x80 ∷ 0x82 ∷ replicate 4 0x80
+
+abbrev spare9 : List ℕ
+spare9 = 0xd0 ∷ 0xa0 ∷ replicate 5 0x80
 
 -- a buffer with something in it, and no octets of a frame
 abbrev fives : ℕ → List ℕ
@@ -211,6 +230,7 @@ fields =
     ∷ (open-image imageIffB ⇒ told 0 0 (pair (m.S8Plus trackB) (m.S3 iffB)))
     ∷ (open-image imageAmplifyingA ⇒ told 0 0 (pair (m.S4Plus trackA) (m.S5 (amplifyingA 6))))
     ∷ (open-image imageAmplifyingB ⇒ told 0 0 (pair (m.S8Plus trackB) (m.S5 amplifyingB)))
+    ∷ (open-image imageCorners ⇒ told 0 0 (pair (m.S9 (cornerA (negsuc 1233) (pos 3007))) (m.S9 cornerB)))
     ∷ []
 
 pub fields-hold : answers fields ≡ expected fields
@@ -231,11 +251,12 @@ pub verdicts-hold : answers verdicts ≡ expected verdicts
 unfolding answer every sumOf verdictOf
 verdicts-hold = refl
 
--- a label alone: 6
+-- a label alone: 6, S.9+ among them
 abbrev pub named : List Row
 named =
     (kind-named 17 ⇒ told 0 0 (value 17))
-    ∷ (kind-named 5 ⇒ told 6 0 nothing)
+    ∷ (kind-named 5 ⇒ told 0 0 (value 5))
+    ∷ (kind-named 37 ⇒ told 6 0 nothing)
     ∷ (kind-named 81 ⇒ told 6 0 nothing)
     ∷ []
 
@@ -243,14 +264,16 @@ pub named-hold : answers named ≡ expected named
 unfolding answer nameRefusal namedOf
 named-hold = refl
 
--- opening: 6 first (labels 5 and 24), 6 second, 7, 8 first, 8 second, each told before the next
+-- opening: 6 first (labels 37 and 24), 6 second, 7, 8 first, 8 second, each told before the next
 abbrev pub opening : List Row
 opening =
-    (open-image (image (label 0xd0) (label 0x8c) 0xa3) ⇒ told 6 1 nothing)
+    (open-image (image (label 0xd2) (label 0x8c) 0xa1) ⇒ told 6 1 nothing)
     ∷ (open-image (image (label 0xc4) (label 0x8c) 0xb7) ⇒ told 6 2 nothing)
     ∷ (open-image (image strength1 strength1 0xff) ⇒ told 7 0 nothing)
     ∷ (open-image (image elevation13 elevation13 0xff) ⇒ told 8 1 nothing)
     ∷ (open-image (image (label 0xc4) elevation13 0xeb) ⇒ told 8 2 nothing)
+    ∷ (open-image (image spare20 (label 0xd0) 0xfd) ⇒ told 8 1 nothing)
+    ∷ (open-image (image (label 0xd0) spare9 0xdf) ⇒ told 8 2 nothing)
     ∷ []
 
 pub opening-hold : answers opening ≡ expected opening
@@ -265,6 +288,8 @@ closing =
     ∷ (close-pair far far (fives 16) ⇒ told 8 1 (buffer (fives 16)))
     ∷ (close-pair (at (pos 0)) far (fives 16) ⇒ told 8 2 (buffer (fives 16)))
     ∷ (close-pair (m.S4 trackA) (m.S8 trackB) (fives 16) ⇒ told 0 0 (buffer imageAB))
+    ∷ (close-pair (m.S9 (cornerA (negsuc 1233) (pos 3007))) (m.S9 cornerB) (fives 16) ⇒ told 0 0 (buffer imageCorners))
+    ∷ (close-pair (m.S9 cornerB) m.Blank (fives 16) ⇒ told 7 0 (buffer (fives 16)))
     ∷ []
 
 pub closing-hold : answers closing ≡ expected closing
@@ -337,6 +362,9 @@ shifting =
     (shift-by (m.S4Plus trackA) (pos 375 ∷ []) (negsuc 1124 ∷ []) ⇒ told 0 0 (message (m.S4Plus (track 12345 1 (negsuc 1233) (pos 3006)))))
     ∷ (shift-by (m.S8 trackB) [] (pos 750 ∷ []) ⇒ told 0 0 (message (m.S8 (track 20001 2 (pos 77) (negsuc 3998)))))
     ∷ (shift-by (m.S8Plus trackB) (negsuc 749 ∷ []) [] ⇒ told 0 0 (message (m.S8Plus (track 20001 2 (pos 76) (negsuc 3999)))))
+    ∷ (shift-by (m.S9 (cornerA (pos 1) (negsuc 0))) (pos 375 ∷ []) (negsuc 374 ∷ []) ⇒ told 0 0 (message (m.S9 (cornerA (pos 2) (negsuc 1)))))
+    ∷ (shift-by (m.S9 (cornerA (pos 4095) (pos 0))) (pos 375 ∷ []) [] ⇒ told 9 1 (message (m.S9 (cornerA (pos 4095) (pos 0)))))
+    ∷ (shift-by (m.S9 (cornerA (pos 0) (negsuc 4095))) [] (negsuc 374 ∷ []) ⇒ told 9 2 (message (m.S9 (cornerA (pos 0) (negsuc 4095)))))
     ∷ (shift-by (m.S6 (strobeA 11)) (replicate 9 (pos 0)) [] ⇒ told 11 0 (message (m.S6 (strobeA 11))))
     ∷ []
 

@@ -30,6 +30,7 @@ pub use kind::Named;
 pub use kind::kind_named;
 pub use kind::label;
 pub use message::Amplifying;
+pub use message::Corner;
 pub use message::Iff;
 pub use message::Message;
 pub use message::Mode;

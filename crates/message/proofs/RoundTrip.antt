@@ -19,7 +19,7 @@ use Rattle.message.specs.Messages.{modeOf, presenceOf, codeOf, modeKept,
 use Rattle.kind.specs.Labels.{kindFrom, labelledOf}
 use Rattle.message.specs.Codec.{contentKept, messageIn, contentOf, encodedOf}
 use Rattle.kind.specs.declared.Kind.{Kind}
-use Rattle.kind.specs.declared.Kind.the-variants.{Blank, S0, S3, S4, S4Plus, S5, S6, S8, S8Plus}
+use Rattle.kind.specs.declared.Kind.the-variants.{Blank, S0, S3, S4, S4Plus, S5, S6, S8, S8Plus, S9}
 use Rattle.message.specs.declared.Mode.{Mode}
 use Rattle.message.specs.declared.Mode.the-variants.{Absent, Present}
 use Rattle.message.specs.declared.Iff.{Iff}
@@ -79,6 +79,7 @@ made-parts (m.S5 a) = refl
 made-parts (m.S6 s) = refl
 made-parts (m.S8 t) = refl
 made-parts (m.S8Plus t) = refl
+made-parts (m.S9 c) = refl
 
 kept-parts : (msg : Message) → T (keptOf (kindOf msg) (partsOf msg))
 kept-parts m.Blank = tt
@@ -95,6 +96,7 @@ kept-parts (m.S5 a) = tt
 kept-parts (m.S6 s) = tt
 kept-parts (m.S8 t) = tt
 kept-parts (m.S8Plus t) = tt
+kept-parts (m.S9 c) = tt
 
 -- the word of a kind's values, if they fit
 abbrev packedAs : (k : Kind) → Values (layoutOf k) → Packed
@@ -112,6 +114,7 @@ encoded-made S5 vs t = refl
 encoded-made S6 vs t = refl
 encoded-made S8 vs t = refl
 encoded-made S8Plus vs t = refl
+encoded-made S9 vs t = refl
 
 labelled : (k : Kind) → kindFrom allKinds (labelOf k) ≡ Known k
 labelled Blank = refl
@@ -123,6 +126,7 @@ labelled S5 = refl
 labelled S6 = refl
 labelled S8 = refl
 labelled S8Plus = refl
+labelled S9 = refl
 
 kind-made : (k : Kind) (vs : Values (layoutOf k)) → kindOf (madeOf k vs) ≡ k
 kind-made Blank vs = refl
@@ -134,6 +138,7 @@ kind-made S5 vs = refl
 kind-made S6 vs = refl
 kind-made S8 vs = refl
 kind-made S8Plus vs = refl
+kind-made S9 vs = refl
 
 -- ---- labels
 

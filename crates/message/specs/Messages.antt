@@ -1,18 +1,19 @@
--- Messages and the values of their fields (001, Annex C, Appendix 3; 01, 'Messages').
+-- Messages and the values of their fields (001, Annex C, Appendix 3; 01, 'Messages'; 02, item 1).
 use mathlib.Core.Bool.{Bool, true, false}
 use Prim.Native.Nat.{ℕ}
 use lib.Dec.{eqb}
 use Rattle.bits.specs.Tests.{both}
 use Rattle.bits.specs.Layout.{Values}
-use Rattle.kind.specs.Layouts.{iffLayout, trackLayout, amplifyingLayout, strobeLayout, layoutOf}
+use Rattle.kind.specs.Layouts.{iffLayout, trackLayout, amplifyingLayout, strobeLayout, cornerLayout, layoutOf}
 use Rattle.kind.specs.declared.Kind.{Kind}
-use Rattle.kind.specs.declared.Kind.the-variants.{Blank, S0, S3, S4, S4Plus, S5, S6, S8, S8Plus}
+use Rattle.kind.specs.declared.Kind.the-variants.{Blank, S0, S3, S4, S4Plus, S5, S6, S8, S8Plus, S9}
 use Rattle.message.specs.declared.Mode.{Mode}
 use Rattle.message.specs.declared.Mode.the-variants.{Absent, Present}
 use Rattle.message.specs.declared.Iff.{Iff}
 use Rattle.message.specs.declared.Track.{Track}
 use Rattle.message.specs.declared.Amplifying.{Amplifying}
 use Rattle.message.specs.declared.Strobe.{Strobe}
+use Rattle.message.specs.declared.Corner.{Corner}
 use Rattle.message.specs.declared.Message.{Message}
 use Rattle.message.specs.declared.Message.the-variants as m
 
@@ -91,6 +92,13 @@ strobeFrom = λ (a, (w, (c, (sim, (az, (si, (se, (n, (el, (ag, e)))))))))).
 abbrev pub strobeParts : Strobe → Values strobeLayout
 strobeParts s = (s .acquisition, (s .width, (s .«strobe_type», (s .simulated, (s .azimuth, (s .site, (s .sensor, (s .number, (s .elevation, (s .age, tt))))))))))
 
+abbrev pub cornerFrom : Values cornerLayout → Corner
+cornerFrom = λ (a, (s, (si, (n, (d, (s2, (x, (y, e)))))))).
+    record { area = a; site = si; number = n; drop = d; x = record { 0 = x }; y = record { 0 = y } }
+
+abbrev pub cornerParts : Corner → Values cornerLayout
+cornerParts c = (c .area, (tt, (c .site, (c .number, (c .drop, (tt, (c .x .0, (c .y .0, tt))))))))
+
 -- ---- a message from the values of its kind, and back
 
 abbrev pub madeOf : (k : Kind) → Values (layoutOf k) → Message
@@ -103,6 +111,7 @@ madeOf S5 vs = m.S5 (amplifyingFrom vs)
 madeOf S6 vs = m.S6 (strobeFrom vs)
 madeOf S8 vs = m.S8 (trackFrom vs)
 madeOf S8Plus vs = m.S8Plus (trackFrom vs)
+madeOf S9 vs = m.S9 (cornerFrom vs)
 
 abbrev pub kindOf : Message → Kind
 kindOf m.Blank = Blank
@@ -114,6 +123,7 @@ kindOf (m.S5 a) = S5
 kindOf (m.S6 s) = S6
 kindOf (m.S8 t) = S8
 kindOf (m.S8Plus t) = S8Plus
+kindOf (m.S9 c) = S9
 
 abbrev pub partsOf : (msg : Message) → Values (layoutOf (kindOf msg))
 partsOf m.Blank = (tt, tt)
@@ -125,6 +135,7 @@ partsOf (m.S5 a) = amplifyingParts a
 partsOf (m.S6 s) = strobeParts s
 partsOf (m.S8 t) = trackParts t
 partsOf (m.S8Plus t) = trackParts t
+partsOf (m.S9 c) = cornerParts c
 
 -- what the values of a kind must meet beyond their fields
 abbrev pub keptOf : (k : Kind) → Values (layoutOf k) → Bool
@@ -137,3 +148,4 @@ keptOf S5 vs = true
 keptOf S6 vs = true
 keptOf S8 vs = true
 keptOf S8Plus vs = true
+keptOf S9 vs = true

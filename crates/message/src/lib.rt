@@ -65,6 +65,16 @@ pub struct Strobe {
     pub age: u8,
 }
 
+// S.9, the area corner point message: an area of the site and a corner of the area, each counted from 0.
+pub struct Corner {
+    pub area: u8,
+    pub site: u8,
+    pub number: u8,
+    pub drop: bool,
+    pub x: LinkSteps,
+    pub y: LinkSteps,
+}
+
 pub enum Message {
     Blank,
     S0,
@@ -75,6 +85,7 @@ pub enum Message {
     S6(Strobe),
     S8(Track),
     S8Plus(Track),
+    S9(Corner),
 }
 
 // What a word of a known kind holds.
@@ -97,6 +108,7 @@ pub fn kind_of(m: Message) -> Kind
         Message::S6(_) => Kind::S6,
         Message::S8(_) => Kind::S8,
         Message::S8Plus(_) => Kind::S8Plus,
+        Message::S9(_) => Kind::S9,
     }
 }
 

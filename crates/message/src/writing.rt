@@ -3,11 +3,12 @@
 ghost use mathlib.Core.Path.{_≡_};
 ghost use Rattle.bits.specs.Layout.{bit, writeAs, signed};
 ghost use Rattle.bits.specs.Rules.{rawOf};
-ghost use Rattle.kind.specs.Layouts.{iffLayout, trackLayout, amplifyingLayout, strobeLayout};
+ghost use Rattle.kind.specs.Layouts.{iffLayout, trackLayout, amplifyingLayout, strobeLayout, cornerLayout};
 ghost use Rattle.kind.specs.Tables.{padded};
-ghost use Rattle.message.specs.Messages.{presenceOf, codeOf, iffParts, trackParts, amplifyingParts, strobeParts};
+ghost use Rattle.message.specs.Messages.{presenceOf, codeOf, iffParts, trackParts, amplifyingParts, strobeParts, cornerParts};
 ghost use Rattle.message.specs.Codec.{valuesOf};
 use crate::Amplifying;
+use crate::Corner;
 use crate::Iff;
 use crate::Message;
 use crate::Mode;
@@ -143,6 +144,28 @@ fn write_strobe(s: Strobe) -> [u64; 13]
     ]
 }
 
+fn write_corner(c: Corner) -> [u64; 13]
+    ensures { λ r. ⌜ r ≡ padded 13 (rawOf cornerLayout (cornerParts c)) ⌝ }
+{
+    let x = c.x;
+    let y = c.y;
+    [
+        wide8(c.area),
+        0,
+        wide8(c.site),
+        wide8(c.number),
+        bits::bit_of(c.drop),
+        0,
+        steps_bits(x),
+        steps_bits(y),
+        0,
+        0,
+        0,
+        0,
+        0,
+    ]
+}
+
 // S.0's pattern, field by field.
 const TEST_VALUES: [u64; 13] = [0, 46, 0, 46, 0, 46, 0, 46, 0, 46, 0, 46, 0];
 
@@ -159,5 +182,6 @@ pub fn values(m: Message) -> [u64; 13]
         Message::S6(s) => write_strobe(s),
         Message::S8(t) => write_track(t),
         Message::S8Plus(t) => write_track(t),
+        Message::S9(c) => write_corner(c),
     }
 }

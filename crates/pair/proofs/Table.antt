@@ -1,5 +1,5 @@
--- The pair table: what the code has is what the definition says, entry by entry, and keeps 01's four rules. Assumes nothing.
-use mathlib.Core.Path.{_≡_, refl, sym, ap, ap₂, _∙_}
+-- The pair table: what the code has is what the definition says, entry by entry, and keeps the papers' rules. Assumes nothing.
+use mathlib.Core.Path.{_≡_, refl, ap, _∙_}
 use mathlib.Core.Bool.{Bool, true, false, not}
 use mathlib.Core.List.{List, [], _∷_, map}
 use Prim.Native.Nat.{ℕ}
@@ -10,10 +10,9 @@ use Rattle.bits.specs.Numbers.{sumOf}
 use Rattle.bits.specs.Layout.{bit}
 use Rattle.kind.specs.Layouts.{allKinds, numberOf}
 use Rattle.kind.specs.declared.Kind.{Kind}
-use Rattle.kind.specs.declared.Kind.the-variants.{Blank, S0, S3, S4, S4Plus, S5, S6, S8, S8Plus}
+use Rattle.kind.specs.declared.Kind.the-variants.{Blank, S0, S3, S4, S4Plus, S5, S6, S8, S8Plus, S9}
 use Rattle.pair.specs.Pairs.{isIn, pairOf}
-use Rattle.bits.proofs.TestLaws.{every-at}
-use Rattle.kind.proofs.TableLaws.{row-at, number-lt}
+use Rattle.kind.proofs.TableLaws.{row-at, all, each}
 
 -- the grid of the definition, a row for each first kind and a column for each second; `is_pair` holds the code's grid against it
 unfoldable pub pairs : List (List Bool)
@@ -33,11 +32,11 @@ unfolding pairs every
 grid-square = refl
 
 -- how many pairs there are
-pub pairs-counted : sumOf (λ row. sumOf (λ column. bit (entry row column)) (length allKinds)) (length allKinds) ≡ 17
+pub pairs-counted : sumOf (λ row. sumOf (λ column. bit (entry row column)) (length allKinds)) (length allKinds) ≡ 18
 unfolding pairs pairOf sumOf
 pairs-counted = refl
 
--- ---- 01's four rules, of the table that the code has: one test of all its entries, and the rule at any two kinds
+-- ---- the rules of 01, and of 02, item 1, of the table that the code has: one test of all its entries, and the rules at any two kinds
 
 abbrev pub tableOf : Kind → Kind → Bool
 tableOf first second = entry (numberOf first) (numberOf second)
@@ -50,11 +49,11 @@ abbrev implies : Bool → Bool → Bool
 implies true b = b
 implies false b = true
 
--- S.0 is followed by S.0 only, and follows nothing else
-abbrev pub testRule : Kind → Kind → Bool
-testRule first second =
-    both (implies (isIn first (S0 ∷ [])) (same (tableOf first second) (isIn second (S0 ∷ []))))
-    (implies (isIn second (S0 ∷ [])) (same (tableOf first second) (isIn first (S0 ∷ []))))
+-- a kind is followed by itself only, and follows nothing else: S.0 and S.9
+abbrev pub aloneRule : Kind → Kind → Kind → Bool
+aloneRule k first second =
+    both (implies (isIn first (k ∷ [])) (same (tableOf first second) (isIn second (k ∷ []))))
+    (implies (isIn second (k ∷ [])) (same (tableOf first second) (isIn first (k ∷ []))))
 
 -- S.4+ and S.8+ are followed by S.3 or S.5, and are never second
 abbrev pub plusRule : Kind → Kind → Bool
@@ -71,23 +70,14 @@ trackRule first second =
 abbrev pub neverFirst : Kind → Kind → Bool
 neverFirst first second = implies (isIn first (Blank ∷ S3 ∷ S5 ∷ [])) (not (tableOf first second))
 
-abbrev pub fourRules : Kind → Kind → Bool
-fourRules first second = both (testRule first second) (both (plusRule first second) (both (trackRule first second) (neverFirst first second)))
+abbrev pub pairRules : Kind → Kind → Bool
+pairRules first second =
+    both (aloneRule S0 first second)
+    (both (plusRule first second) (both (trackRule first second) (both (neverFirst first second) (aloneRule S9 first second))))
 
--- the kind of a row or column
-kindNumbered : ℕ → Kind
-kindNumbered n = getD allKinds n Blank
-
-numbered : (k : Kind) → kindNumbered (numberOf k) ≡ k
-unfolding kindNumbered
-numbered k = row-at (λ (k : Kind). k) k Blank
-
-rules-kept : every (λ row. every (λ column. fourRules (kindNumbered row) (kindNumbered column)) (length allKinds)) (length allKinds) ≡ true
-unfolding pairs pairOf kindNumbered every
+rules-kept : all (λ (first : Kind). all (pairRules first) allKinds) allKinds ≡ true
+unfolding pairs pairOf
 rules-kept = refl
 
-pub four-rules : (first second : Kind) → fourRules first second ≡ true
-four-rules first second =
-    let row = every-at (λ n. every (λ column. fourRules (kindNumbered n) (kindNumbered column)) (length allKinds)) (length allKinds) rules-kept (numberOf first) (number-lt first) in
-    sym (ap₂ fourRules (numbered first) (numbered second))
-    ∙ every-at (λ column. fourRules (kindNumbered (numberOf first)) (kindNumbered column)) (length allKinds) row (numberOf second) (number-lt second)
+pub pair-rules : (first second : Kind) → pairRules first second ≡ true
+pair-rules first = each (pairRules first) (each (λ (k : Kind). all (pairRules k) allKinds) rules-kept first)

@@ -2,6 +2,7 @@
 
 use link1::AltSteps;
 use link1::Amplifying;
+use link1::Corner;
 use link1::Iff;
 use link1::Kind;
 use link1::LinkSteps;
@@ -70,10 +71,21 @@ fn strobe(line: &[u8], k: usize) -> Strobe {
     }
 }
 
+fn corner(line: &[u8], k: usize) -> Corner {
+    Corner {
+        area: numbers::u8_at(line, k, 2),
+        site: numbers::u8_at(line, k, 4),
+        number: numbers::u8_at(line, k, 6),
+        drop: numbers::bool_at(line, k, 8),
+        x: LinkSteps(numbers::i16_at(line, k, 10)),
+        y: LinkSteps(numbers::i16_at(line, k, 12)),
+    }
+}
+
 // The message that the parts from k on make. Behind the kind's word each field has two parts, its word and its number; a number is
 // cut to its field's type, and any other word is Blank's.
 fn read(line: &[u8], k: usize) -> Message {
-    match parts::which(b"Blank S0 S3 S4 S4+ S5 S6 S8 S8+", line, k) {
+    match parts::which(b"Blank S0 S3 S4 S4+ S5 S6 S8 S8+ S9", line, k) {
         1 => Message::S0,
         2 => Message::S3(iff(line, k)),
         3 => Message::S4(track(line, k)),
@@ -82,6 +94,7 @@ fn read(line: &[u8], k: usize) -> Message {
         6 => Message::S6(strobe(line, k)),
         7 => Message::S8(track(line, k)),
         8 => Message::S8Plus(track(line, k)),
+        9 => Message::S9(corner(line, k)),
         _ => Message::Blank,
     }
 }
@@ -171,6 +184,21 @@ fn strobe_fields(m: Strobe) -> Fields {
     }
 }
 
+fn corner_fields(m: Corner) -> Fields {
+    let x = m.x;
+    let y = m.y;
+    let a = m.area as u64;
+    let b = m.site as u64;
+    let c = m.number as u64;
+    let d = bits::bit_of(m.drop);
+    let e = numbers::of_i16(x.0);
+    let f = numbers::of_i16(y.0);
+    Fields {
+        count: 6,
+        numbers: [a, b, c, d, e, f, 0, 0, 0, 0, 0],
+    }
+}
+
 fn fields_of(m: Message) -> Fields {
     match m {
         Message::Blank => none(),
@@ -182,6 +210,7 @@ fn fields_of(m: Message) -> Fields {
         Message::S6(s) => strobe_fields(s),
         Message::S8(t) => track_fields(t),
         Message::S8Plus(t) => track_fields(t),
+        Message::S9(c) => corner_fields(c),
     }
 }
 
@@ -263,6 +292,7 @@ fn pass_kind(w: Walk, line: &[u8], k: Kind, numbers: &[u64], count: usize) -> Wa
         ),
         Kind::S8 => pass_fields(w, line, b"S8 number quality x y", numbers, count),
         Kind::S8Plus => pass_fields(w, line, b"S8+ number quality x y", numbers, count),
+        Kind::S9 => pass_fields(w, line, b"S9 area site number drop x y", numbers, count),
     }
 }
 

@@ -20,7 +20,7 @@ use Rattle.units.specs.Steps.{isStep, movedTo}
 use Rattle.units.specs.Nearest.{Nearest, OddMultiple}
 use Rattle.message.specs.Codec.{encodedOf}
 use Rattle.kind.specs.Layouts.{wholeOf}
-use Rattle.message.specs.Messages.{trackParts, kindOf, partsOf}
+use Rattle.message.specs.Messages.{trackParts, cornerParts, kindOf, partsOf}
 use Rattle.kind.specs.declared.Kind.the-variants as k
 use Rattle.message.specs.declared.Message.{Message}
 use Rattle.message.specs.declared.Message.the-variants as m
@@ -62,6 +62,7 @@ placed-there (m.S5 a) x y h = absurd (clash h refl)
 placed-there (m.S6 s) x y h = absurd (clash h refl)
 placed-there (m.S8 t) x y h = refl
 placed-there (m.S8Plus t) x y h = refl
+placed-there (m.S9 c) x y h = refl
 
 placed-again : (m : Message) (x y u v : ℤ) → placedAt (placedAt m x y) u v ≡ placedAt m u v
 placed-again m.Blank x y u v = refl
@@ -73,6 +74,7 @@ placed-again (m.S5 a) x y u v = refl
 placed-again (m.S6 s) x y u v = refl
 placed-again (m.S8 t) x y u v = refl
 placed-again (m.S8Plus t) x y u v = refl
+placed-again (m.S9 c) x y u v = refl
 
 placed-own : (m : Message) → placedAt m (xOf (positionOf m)) (yOf (positionOf m)) ≡ m
 placed-own m.Blank = refl
@@ -84,6 +86,7 @@ placed-own (m.S5 a) = refl
 placed-own (m.S6 s) = refl
 placed-own (m.S8 t) = refl
 placed-own (m.S8Plus t) = refl
+placed-own (m.S9 c) = refl
 
 -- ---- the nearest steps: a shift that is not refused gives the message at a position of which each axis is nearest to the exact sum in
 -- feet, and with all else as it was
@@ -153,7 +156,7 @@ both-in-range x y e =
     let p = fits-parts (signed 12) (signed 12 ∷ []) (x, (y, tt)) e in
     (in-range x (p .0), in-range y (fits-parts (signed 12) [] (y, tt) (p .1) .0))
 
--- X and Y come after the label, the number and the quality of a track
+-- X and Y come after the label and two fields of a track, six of a corner
 range : (m : Message) → isSomewhere (positionOf m) ≡ true → encodedOf m .fits ≡ true
     → (isStep (xOf (positionOf m)) ≡ true) × (isStep (yOf (positionOf m)) ≡ true)
 unfolding rest
@@ -166,6 +169,7 @@ range (m.S5 a) h f = absurd (clash h refl)
 range (m.S6 s) h f = absurd (clash h refl)
 range (m.S8 t) h f = both-in-range (t .x .0) (t .y .0) (fits-rest 3 (wholeOf k.S8) (tt, trackParts t) (fits-whole (m.S8 t) f))
 range (m.S8Plus t) h f = both-in-range (t .x .0) (t .y .0) (fits-rest 3 (wholeOf k.S8Plus) (tt, trackParts t) (fits-whole (m.S8Plus t) f))
+range (m.S9 c) h f = both-in-range (c .x .0) (c .y .0) (fits-rest 7 (wholeOf k.S9) (tt, cornerParts c) (fits-whole (m.S9 c) f))
 
 pub nothing-moves : (m : Message) → isSomewhere (positionOf m) ≡ true → encodedOf m .fits ≡ true
     → shiftedOf m [] [] ≡ record { refusal = numbered success; message = m }

@@ -2,8 +2,9 @@
 
 ghost use mathlib.Core.Path.{_≡_};
 ghost use Rattle.units.specs.Steps.{nearestTo};
-ghost use Rattle.shift.specs.Positions.{trackPosition, positionOf, placedTrack, placedAt};
+ghost use Rattle.shift.specs.Positions.{trackPosition, cornerPosition, positionOf, placedTrack, placedCorner, placedAt};
 ghost use Rattle.shift.specs.Shift.{sumsOf, newPosition, movedPosition, leftAs, finishedOf, shiftedOf};
+use message::Corner;
 use message::Message;
 use message::Track;
 use refusal::Refusal;
@@ -12,7 +13,7 @@ use units::LinkSteps;
 use units::Moved;
 use units::Summed;
 
-// Where a message says that its track is, if it says so.
+// Where a message says that its track or corner is, if it says so.
 pub enum Position {
     At(LinkSteps, LinkSteps),
     Nowhere,
@@ -44,6 +45,14 @@ fn track_position(t: Track) -> Position
     Position::At(x, y)
 }
 
+fn corner_position(c: Corner) -> Position
+    ensures { λ r. ⌜ r ≡ cornerPosition c ⌝ }
+{
+    let x = c.x;
+    let y = c.y;
+    Position::At(x, y)
+}
+
 fn find_position(m: Message) -> Position
     ensures { λ r. ⌜ r ≡ positionOf m ⌝ }
 {
@@ -57,6 +66,7 @@ fn find_position(m: Message) -> Position
         Message::S6(_) => Position::Nowhere,
         Message::S8(t) => track_position(t),
         Message::S8Plus(t) => track_position(t),
+        Message::S9(c) => corner_position(c),
     }
 }
 
@@ -67,6 +77,20 @@ fn place_track(t: Track, x: LinkSteps, y: LinkSteps) -> Track
     Track {
         number: t.number,
         quality: t.quality,
+        x,
+        y,
+    }
+}
+
+// The same corner elsewhere.
+fn place_corner(c: Corner, x: LinkSteps, y: LinkSteps) -> Corner
+    ensures { λ r. ⌜ r ≡ placedCorner c (x .0) (y .0) ⌝ }
+{
+    Corner {
+        area: c.area,
+        site: c.site,
+        number: c.number,
+        drop: c.drop,
         x,
         y,
     }
@@ -86,6 +110,7 @@ fn place(m: Message, x: LinkSteps, y: LinkSteps) -> Message
         Message::S6(_) => m,
         Message::S8(t) => Message::S8(place_track(t, x, y)),
         Message::S8Plus(t) => Message::S8Plus(place_track(t, x, y)),
+        Message::S9(c) => Message::S9(place_corner(c, x, y)),
     }
 }
 

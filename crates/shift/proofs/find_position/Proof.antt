@@ -44,6 +44,12 @@ enum-known-m-4 c = search needs
 track-position-requires-4 : tie.Need-track-position-requires-4
 track-position-requires-4 c κs = search needs
 
+enum-known-m-5 : tie.Need-enum-known-m-5
+enum-known-m-5 c = search needs
+
+corner-position-requires : tie.Need-corner-position-requires
+corner-position-requires c κs = search needs
+
 returns : tie.Need-returns
 returns c = search needs
 
@@ -71,6 +77,9 @@ returns-8 c = c .track-position3 .ensures ∙ sym (ap positionOf (c .before .bef
 returns-9 : tie.Need-returns-9
 returns-9 c = c .track-position4 .ensures ∙ sym (ap positionOf (c .before .before .m4 .given .1))
 
+returns-10 : tie.Need-returns-10
+returns-10 c = c .corner-position .ensures ∙ sym (ap positionOf (c .before .before .m5 .given .1))
+
 pub find-position-spec : {M : Type 1} → statement M
 find-position-spec =
     tie.close
@@ -88,6 +97,8 @@ find-position-spec =
     track-position-requires-3
     enum-known-m-4
     track-position-requires-4
+    enum-known-m-5
+    corner-position-requires
     returns
     returns-2
     returns-3
@@ -96,4 +107,5 @@ find-position-spec =
     returns-6
     returns-7
     returns-8
-    returns-9)
+    returns-9
+    returns-10)

@@ -42,6 +42,12 @@ enum-known-m-4 c = search needs
 place-track-requires-4 : tie.Need-place-track-requires-4
 place-track-requires-4 c κs = search needs
 
+enum-known-m-5 : tie.Need-enum-known-m-5
+enum-known-m-5 c = search needs
+
+place-corner-requires : tie.Need-place-corner-requires
+place-corner-requires c κs = search needs
+
 returns : tie.Need-returns
 returns c = search needs
 
@@ -69,6 +75,9 @@ returns-8 c = rw (c .before .before .m3 .given .1, c .place-track3 .ensures)
 returns-9 : tie.Need-returns-9
 returns-9 c = rw (c .before .before .m4 .given .1, c .place-track4 .ensures)
 
+returns-10 : tie.Need-returns-10
+returns-10 c = rw (c .before .before .m5 .given .1, c .place-corner .ensures)
+
 pub place-spec : {M : Type 1} → statement M
 place-spec =
     tie.close
@@ -86,6 +95,8 @@ place-spec =
     place-track-requires-3
     enum-known-m-4
     place-track-requires-4
+    enum-known-m-5
+    place-corner-requires
     returns
     returns-2
     returns-3
@@ -94,4 +105,5 @@ place-spec =
     returns-6
     returns-7
     returns-8
-    returns-9)
+    returns-9
+    returns-10)
