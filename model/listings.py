@@ -29,6 +29,14 @@ def mixed():
             turned_in_message(FIRST["S8+"], SECOND["S3"], 2, 21), image(FIRST["S4"], SECOND["S6"])]
 
 
+def corners():
+    first, second = FIRST["S9"], SECOND["S9"]
+    associated = link1.message_bits(first)
+    link1.write_bits(associated, 1, 6, 37)
+    return [image(first, second), turned_in_message(first, second, 1, 20), turned_in_message(first, second, 2, 9),
+            image(first, message("Blank")), word_image(associated, link1.message_bits(second))]
+
+
 def pairs():
     return [image(FIRST[first], SECOND[second]) for first, second in LEGAL_PAIRS]
 
@@ -94,8 +102,8 @@ def logs():
     """Each listed file's name and octets, in order."""
     full = b"".join(sixteen()) * 256
     return [("none", b""), ("short", P[:15]), ("left", P + Q + N + T[:7]), ("mixed", b"".join(mixed())),
-            ("pairs", b"".join(pairs())), ("refusals", b"".join(refusals())), ("damaged", b"".join(damaged())),
-            ("fields", b"".join(fields())), ("full", full), ("over", full + b"\x00")]
+            ("corners", b"".join(corners())), ("pairs", b"".join(pairs())), ("refusals", b"".join(refusals())),
+            ("damaged", b"".join(damaged())), ("fields", b"".join(fields())), ("full", full), ("over", full + b"\x00")]
 
 
 def text(printed):

@@ -18,6 +18,7 @@ fn main() {
     list(b"short");
     list(b"left");
     list(b"mixed");
+    list(b"corners");
     list(b"pairs");
     list(b"refusals");
     list(b"damaged");
