@@ -51,19 +51,9 @@ row-at f S8 d = refl
 row-at f S8Plus d = refl
 row-at f S9 d = refl
 
--- ---- one test of all kinds, and what it says of each
-
-abbrev pub all : (Kind → Bool) → List Kind → Bool
-all test [] = true
-all test (k ∷ ks) = both (test k) (all test ks)
-
-passes : (test : Kind → Bool) (ks : List Kind) → all test ks ≡ true → (n : ℕ) → getD (map test ks) n true ≡ true
-passes test [] e n = refl
-passes test (k ∷ ks) e zero = both-true {a = test k} {b = all test ks} e .0
-passes test (k ∷ ks) e (suc n) = passes test ks (both-true {a = test k} {b = all test ks} e .1) n
-
-pub each : (test : Kind → Bool) → all test allKinds ≡ true → (k : Kind) → test k ≡ true
-each test e k = sym (row-at test k true) ∙ passes test allKinds e (numberOf k)
+-- what is computed to be the same in the order of the kinds is the same at each kind
+pub each : {A : Type 0} (f g : Kind → A) → map f allKinds ≡ map g allKinds → (k : Kind) → f k ≡ g k
+each f g e k = sym (row-at f k (g k)) ∙ ap (λ (rows : List _). getD rows (numberOf k) (g k)) e ∙ row-at g k (g k)
 
 -- ---- the layouts
 
@@ -74,7 +64,7 @@ lawful k =
     (both (leb (length (layoutOf k)) 13) (both (eqb (total (widthsOf (layoutOf k))) 43) (allFew (layoutOf k))))
 
 laid : (k : Kind) → lawful k ≡ true
-laid = each lawful refl
+laid = each lawful (λ k. true) refl
 
 module _ (k : Kind) where
   parts : (ltb (labelOf k) 64 ≡ true) × (leb (length (layoutOf k)) 13 ≡ true) × (eqb (total (widthsOf (layoutOf k))) 43 ≡ true) × (allFew (layoutOf k) ≡ true)

@@ -29,7 +29,7 @@ use Rattle.kind.specs.declared.Labelled.the-variants.{Known}
 use Rattle.message.specs.declared.Content.the-variants.{Good, Bad}
 use Rattle.bits.proofs.TestLaws.{zero-one, to-T, from-T, both-true, both-left, both-right, both-intro}
 use Rattle.bits.proofs.LayoutLaws.{join-split, fits-split, split-join, allowed-join, first-join}
-use Rattle.kind.proofs.TableLaws.{wide}
+use Rattle.kind.proofs.TableLaws.{each, wide}
 
 -- ---- modes
 
@@ -116,18 +116,6 @@ encoded-made S8 vs t = refl
 encoded-made S8Plus vs t = refl
 encoded-made S9 vs t = refl
 
-labelled : (k : Kind) → kindFrom allKinds (labelOf k) ≡ Known k
-labelled Blank = refl
-labelled S0 = refl
-labelled S3 = refl
-labelled S4 = refl
-labelled S4Plus = refl
-labelled S5 = refl
-labelled S6 = refl
-labelled S8 = refl
-labelled S8Plus = refl
-labelled S9 = refl
-
 kind-made : (k : Kind) (vs : Values (layoutOf k)) → kindOf (madeOf k vs) ≡ k
 kind-made Blank vs = refl
 kind-made S0 vs = refl
@@ -141,6 +129,10 @@ kind-made S8Plus vs = refl
 kind-made S9 vs = refl
 
 -- ---- labels
+
+-- no two kinds have one label
+labelled : (k : Kind) → kindFrom allKinds (labelOf k) ≡ Known k
+labelled = each (λ (k : Kind). kindFrom allKinds (labelOf k)) Known refl
 
 label-from : (ks : List Kind) (n : ℕ) (k : Kind) → kindFrom ks n ≡ Known k → n ≡ labelOf k
 label-from [] n k p = zero-one (cc)

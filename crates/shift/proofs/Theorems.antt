@@ -20,8 +20,7 @@ use Rattle.units.specs.Steps.{isStep, movedTo}
 use Rattle.units.specs.Nearest.{Nearest, OddMultiple}
 use Rattle.message.specs.Codec.{encodedOf}
 use Rattle.kind.specs.Layouts.{wholeOf}
-use Rattle.message.specs.Messages.{trackParts, cornerParts, kindOf, partsOf}
-use Rattle.kind.specs.declared.Kind.the-variants as k
+use Rattle.message.specs.Messages.{kindOf, partsOf}
 use Rattle.message.specs.declared.Message.{Message}
 use Rattle.message.specs.declared.Message.the-variants as m
 use Rattle.shift.specs.Positions.{positionOf, isSomewhere, xOf, yOf, placedAt}
@@ -151,6 +150,10 @@ fits-rest zero fs vs e = e
 fits-rest (suc n) [] vs e = e
 fits-rest (suc n) (f ∷ fs) vs e = fits-rest n fs (vs .1) (fits-parts f fs vs e .1)
 
+-- so for a message that can be written
+fits-after : (n : ℕ) (m : Message) → encodedOf m .fits ≡ true → fits (drop n (wholeOf (kindOf m))) (rest n (wholeOf (kindOf m)) (tt, partsOf m)) ≡ true
+fits-after n m f = fits-rest n (wholeOf (kindOf m)) (tt, partsOf m) (fits-whole m f)
+
 both-in-range : (x y : ℤ) → fits (signed 12 ∷ signed 12 ∷ []) (x, (y, tt)) ≡ true → (isStep x ≡ true) × (isStep y ≡ true)
 both-in-range x y e =
     let p = fits-parts (signed 12) (signed 12 ∷ []) (x, (y, tt)) e in
@@ -163,13 +166,13 @@ unfolding rest
 range m.Blank h f = absurd (clash h refl)
 range m.S0 h f = absurd (clash h refl)
 range (m.S3 i) h f = absurd (clash h refl)
-range (m.S4 t) h f = both-in-range (t .x .0) (t .y .0) (fits-rest 3 (wholeOf k.S4) (tt, trackParts t) (fits-whole (m.S4 t) f))
-range (m.S4Plus t) h f = both-in-range (t .x .0) (t .y .0) (fits-rest 3 (wholeOf k.S4Plus) (tt, trackParts t) (fits-whole (m.S4Plus t) f))
+range (m.S4 t) h f = both-in-range (t .x .0) (t .y .0) (fits-after 3 (m.S4 t) f)
+range (m.S4Plus t) h f = both-in-range (t .x .0) (t .y .0) (fits-after 3 (m.S4Plus t) f)
 range (m.S5 a) h f = absurd (clash h refl)
 range (m.S6 s) h f = absurd (clash h refl)
-range (m.S8 t) h f = both-in-range (t .x .0) (t .y .0) (fits-rest 3 (wholeOf k.S8) (tt, trackParts t) (fits-whole (m.S8 t) f))
-range (m.S8Plus t) h f = both-in-range (t .x .0) (t .y .0) (fits-rest 3 (wholeOf k.S8Plus) (tt, trackParts t) (fits-whole (m.S8Plus t) f))
-range (m.S9 c) h f = both-in-range (c .x .0) (c .y .0) (fits-rest 7 (wholeOf k.S9) (tt, cornerParts c) (fits-whole (m.S9 c) f))
+range (m.S8 t) h f = both-in-range (t .x .0) (t .y .0) (fits-after 3 (m.S8 t) f)
+range (m.S8Plus t) h f = both-in-range (t .x .0) (t .y .0) (fits-after 3 (m.S8Plus t) f)
+range (m.S9 c) h f = both-in-range (c .x .0) (c .y .0) (fits-after 7 (m.S9 c) f)
 
 pub nothing-moves : (m : Message) → isSomewhere (positionOf m) ≡ true → encodedOf m .fits ≡ true
     → shiftedOf m [] [] ≡ record { refusal = numbered success; message = m }
