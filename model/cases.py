@@ -2,8 +2,8 @@
 
 import link1
 import lines
-from values import (FIRST, LEGAL_PAIRS, LENT, N, P, Q, SECOND, T, Stream, changed, image, label_bits, message, turned,
-                    turned_in_message, word_image)
+from values import (FIRST, LEGAL_PAIRS, LENT, N, P, Q, SECOND, T, Stream, changed, checks_kept, image, label_bits,
+                    message, turned, turned_in_message, word_image)
 
 LENT16 = LENT[:16]
 PLAIN16 = bytes([0x5a]) * 16
@@ -217,7 +217,7 @@ def signed_patterns():
     return cases
 
 
-# 01 'Messages', Blank, S.0, S.3 and spare bits.
+# 01 'Messages', Blank, S.0, S.3 and spare bits; 02 Item 2, absent modes.
 
 def test_message():
     """The test message with each of its bits turned, first and second."""
@@ -254,6 +254,122 @@ def modes_closed():
     values = {"mode1": (None, 0, 13, 32), "mode2": (None, 0, 0x3a5, 4096), "mode3a": (None, 0, 0xd16, 4096)}
     return closes([(message("S4+"), message("S3", mode1=mode1, mode2=mode2, mode3a=mode3a)) for mode1 in values["mode1"]
                    for mode2 in values["mode2"] for mode3a in values["mode3a"]], LENT16)
+
+
+# 01 'Messages', S.3: the bit numbers of each mode's code.
+MODES = {word: tuple(range(first, last + 1)) for word, first, last in link1.FIELDS["S3"] if word in link1.PRESENCE}
+
+
+def digits_of(*words):
+    """The bit numbers of these modes' codes."""
+    return [n for word in words for n in MODES[word]]
+
+
+def filled(kind):
+    """A message of another kind than S.3 with ones where S.3 has its codes and zeros where it has its presence bits."""
+    bits = {n: 1 if n in digits_of(*MODES) else 0 for n in range(1, 50)}
+    if kind == "S6":
+        bits[42] = 0  # 01 'Messages': elevation 15 is not used; this one is 11
+    return link1.read_message(kind, bits)
+
+
+def digits_in_modes():
+    """Modes to hold and bits to set besides: digits in each choice of absent modes, and none in modes that hold 0."""
+    codes = {"mode3a": 0xc53, "mode1": 0x0b, "mode2": 0x72a}
+    given = [(dict.fromkeys(MODES, 0), []), ({}, digits_of(*MODES))]
+    for chosen in range(1, 7):
+        absent = [word for place, word in enumerate(MODES) if chosen // 2 ** place % 2 == 1]
+        others = [word for word in MODES if word not in absent]
+        given += [(held, digits_of(*absent))
+                  for held in ({}, dict.fromkeys(others, 0), {word: codes[word] for word in others})]
+    for absent, numbers in MODES.items():
+        others = {word: codes[word] for word in MODES if word != absent}
+        given += [(held, [n]) for n in (numbers[0], numbers[-1]) for held in ({}, others)]
+    return given
+
+
+def images_with_digits():
+    """S.3 with digits in absent modes, behind S.4+ and S.8+ with ones in the same places or with fields that differ."""
+    rest = ({}, {"request": 2}, {"request": 4, "emergency": 1}, {"validation": 1},
+            {"request": 2, "emergency": 1, "validation": 1})
+    images = []
+    for number, (held, digits) in enumerate(digits_in_modes()):
+        for turn, kind in enumerate(("S4+", "S8+"), number):
+            first = filled(kind) if turn % 2 == 0 else FIRST[kind]
+            images.append(turned_in_message(first, message("S3", **held, **rest[turn % 5]), 2, *digits))
+    return images
+
+
+def random_images_with_digits():
+    """S.3 of random-looking bits, no spare bit and no request that is not used among them, behind S.4+ and S.8+."""
+    stream = Stream(10)
+    images = []
+    for kind in ("S4+", "S8+") * 12:
+        bits = stream.word()
+        link1.write_bits(bits, 1, 6, link1.LABELS["S3"])
+        link1.write_bits(bits, 21, 23, (0, 2, 4)[stream.below(3)])
+        for n in link1.SPARE["S3"]:
+            bits[n] = 0
+        images.append(word_image(link1.message_bits(stream.message(kind)), bits))
+    return images
+
+
+def opened_and_closed(octets, buffer):
+    """An accepted image opened, and what it opened as closed: 02 Item 2 says that this gives the image zeroed."""
+    result, pair = link1.open_image(octets)
+    after = link1.zeroed(octets)
+    assert result == link1.GOOD and link1.close_pair(*pair, buffer) == (link1.GOOD, after)
+    assert link1.zeroed(after) == after and link1.open_image(after) == (link1.GOOD, pair)
+    call, _ = lines.close_pair(*pair, buffer)
+    return opens([octets]) + [(call, lines.answer(link1.GOOD, lines.octet_part(after)))]
+
+
+def refused(result, images):
+    """Images opened that are all refused so."""
+    assert all(link1.open_image(octets)[0] == result for octets in images)
+    return opens(images)
+
+
+def digits_refused():
+    """Digits in absent modes beside a spare bit, a request, a check bit, a mark, a label or a pair that is refused."""
+    first, digits = FIRST["S8+"], digits_of(*MODES)
+    octets = turned_in_message(first, message("S3", emergency=1), 2, *digits)
+    part = digits_of("mode2", "mode3a")
+    cases = refused((8, 2), [turned_in_message(first, given, 2, n, *some) for n in link1.SPARE["S3"]
+                             for given, some in ((message("S3"), digits), (message("S3", mode1=21), part))])
+    cases += refused((8, 2), [turned_in_message(message("S4+"), message("S3", request=code), 2, *some)
+                              for code in link1.NOT_USED["request"] for some in (digits, MODES["mode3a"])])
+    cases += refused((5, 0), [turned(octets, 121 + j) for j in range(1, 7)])
+    cases += refused((4, 0), [turned(octets, 73)]) + refused((3, 0), [turned(octets, 8)])
+    left = {**link1.message_bits(message("S3")), **dict.fromkeys(digits, 1)}
+    cases += refused((6, 1), [word_image(label_bits(37), left)]) + refused((6, 2), [word_image(left, label_bits(37))])
+    cases += refused((7, 0), [turned_in_message(message("S3"), message(kind), 1, *digits) for kind in link1.KINDS])
+    cases += refused((7, 0), [turned_in_message(message(kind), message("S3"), 2, *digits) for kind in link1.KINDS
+                              if kind not in ("S4+", "S8+")])
+    return cases
+
+
+def digits_left():
+    """Digits left in absent modes: opened, closed with zeros there, opened again; beside what is still refused."""
+    cases = []
+    for number, octets in enumerate(images_with_digits() + random_images_with_digits()):
+        after = link1.zeroed(octets)
+        buffer = LENT16 if number % 3 == 0 or after == octets else octets
+        cases += opened_and_closed(octets, buffer) + opens([after])
+        if number % 4 == 1:
+            cases.append(lines.verdict(checks_kept(octets)))
+    return cases + digits_refused()
+
+
+def digits_elsewhere():
+    """Ones where S.3 has its codes, in each legal pair of other kinds: opened, and closed to the same image."""
+    cases = []
+    for first, second in LEGAL_PAIRS:
+        if second != "S3":
+            octets = image(filled(first), filled(second))
+            assert link1.zeroed(octets) == octets
+            cases += opened_and_closed(octets, LENT16)
+    return cases
 
 
 def spare_bits():
@@ -953,12 +1069,12 @@ def last_line():
 
 GROUPS = (examples, names, pairs_closed, pairs_opened, labels_opened, whole_messages, random_messages, fields_whole,
           field_bits_closed, bits_opened, bits_missing, field_ranges, codes, small_numbers, signed_patterns,
-          test_message, blank_message, modes_opened, modes_closed, spare_bits, frame_bits, check_bits, octets_judged,
-          lengths, order_of_opening, order_of_closing, order_of_sending, sending, frames_heard, noise_heard,
-          false_locks, refused_levels, frames_in_turn, faulty_runs, turned_runs, cut_runs, resumed, aligned_captures,
-          two_frame_captures, damaged_captures, plain_captures, long_captures, shifts_around_steps, shifts_by_lists,
-          shift_limits, shift_contents, order_of_shifting, altitudes, text_characters, texts, other_writings,
-          odd_numbers, odd_messages, odd_lines, last_line)
+          test_message, blank_message, modes_opened, modes_closed, digits_left, digits_elsewhere, spare_bits,
+          frame_bits, check_bits, octets_judged, lengths, order_of_opening, order_of_closing, order_of_sending,
+          sending, frames_heard, noise_heard, false_locks, refused_levels, frames_in_turn, faulty_runs, turned_runs,
+          cut_runs, resumed, aligned_captures, two_frame_captures, damaged_captures, plain_captures, long_captures,
+          shifts_around_steps, shifts_by_lists, shift_limits, shift_contents, order_of_shifting, altitudes,
+          text_characters, texts, other_writings, odd_numbers, odd_messages, odd_lines, last_line)
 
 
 def all_cases():

@@ -37,7 +37,8 @@ FIELDS = {
 # 11.8 and 11.9 send the corner's X and Y to 6.4 and 6.5.
 SIGNED = ("x", "y", "vx", "vy")
 
-# 01 'Messages', S.3: the presence bit of each mode; 001 Annex C Appendix 3 paragraph 5.6.
+# 01 'Messages', S.3: the presence bit of each mode; 001 Annex C Appendix 3 paragraph 5.6. 02 Item 2: where it is zero
+# the mode is absent and its code bits are not looked at, for all three modes; 001 paragraph 5.3 says so of Mode 3/A.
 PRESENCE = {"mode1": 25, "mode2": 26, "mode3a": 27}
 
 # 01 'Messages': spare bits are zero; 001 Annex C Appendix 5 Table C5-1 (no other kind here has any), S.9's also
@@ -110,7 +111,7 @@ def content_is_good(message):
     return True
 
 def message_bits(message):
-    """01 'Messages'; 001 Annex C Appendix 3."""
+    """01 'Messages'; 001 Annex C Appendix 3. 02 Item 2: an absent mode's code bits are written as zeros."""
     kind, fields = message
     bits = {n: 0 for n in range(1, 50)}
     write_bits(bits, 1, 6, LABELS[kind])
@@ -126,18 +127,19 @@ def message_bits(message):
     return bits
 
 def bits_are_good(kind, bits):
-    """01 'Messages', what the bits outside the codes must be; 001 Annex A Appendix 4 paragraphs 3, 4, 14."""
+    """01 'Messages', what the bits outside the fields must be; 001 Annex A Appendix 4 paragraphs 3, 4, 14.
+
+    02 Item 2: nothing is asked of an absent mode's code bits.
+    """
     if kind == "Blank":
         return all(bits[n] == 0 for n in range(1, 50))
     if kind == "S0":
         return all(read_bits(bits, 7 * group + 1, 7 * group + 6) == 46 and bits[7 * group + 7] == 0
                    for group in range(7))
-    if any(bits[n] == 1 for n in SPARE.get(kind, ())):
-        return False
-    return all(word not in PRESENCE or bits[PRESENCE[word]] == 1 or read_bits(bits, first, last) == 0
-               for word, first, last in FIELDS[kind])
+    return all(bits[n] == 0 for n in SPARE.get(kind, ()))
 
 def read_message(kind, bits):
+    """01 'Messages'. 02 Item 2; 001 Annex C Appendix 3 paragraph 5.3: a code is read only where the mode is present."""
     fields = {}
     for word, first, last in FIELDS[kind]:
         if word in PRESENCE and bits[PRESENCE[word]] == 0:
@@ -229,6 +231,27 @@ def close_pair(first, second, buffer):
     if not content_is_good(second):
         return (8, 2), buffer
     return GOOD, image_of(frame_of(message_bits(first), message_bits(second)))
+
+# 02 Item 2, by message bit numbers: the presence bit of each mode of S.3, the first bit and the last of its code;
+# 001 Annex C Appendix 3 paragraphs 5.3, 5.6, 5.9, 5.11.
+MODE_BITS = ((27, 9, 20), (25, 31, 35), (26, 38, 49))
+
+def zeroed(image):
+    """02 Item 2: sixteen octets with absent modes' codes zeroed and the check bits worked anew, all else as it came.
+
+    An accepted image closes to this, and opening and closing that again changes nothing.
+    """
+    frame = image_frame(image)
+    for which in (1, 2):
+        bits = {n: frame[frame_place(which, n)] for n in range(1, 50)}
+        for presence, first, last in MODE_BITS:
+            if read_bits(bits, 1, 6) == 19 and bits[presence] == 0:
+                for n in range(first, last + 1):
+                    frame[frame_place(which, n)] = 0
+    for j in range(1, 7):
+        if check_count(frame, j) % 2 == 0:
+            frame[121 + j] = 1 - frame[121 + j]
+    return image_of(frame)
 
 def send(previous, image, buffer):
     """01 'Orders of checks': 2 image, 2 buffer, 1, 3, 4, 5; 001 Annex A Appendix 3 paragraph 4: a one is a change."""

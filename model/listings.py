@@ -1,9 +1,9 @@
 """The files that are listed, and what the listing program prints for each of them (01 'The listing program')."""
 
 import link1
-from cases import PLACES, faulty_image, pair_of
-from values import (FIRST, LEGAL_PAIRS, N, P, Q, SECOND, T, Stream, image, label_bits, message, turned,
-                    turned_in_message, word_image)
+from cases import MODES, PLACES, digits_of, faulty_image, pair_of
+from values import (FIRST, LEGAL_PAIRS, N, P, Q, SECOND, T, Stream, changed, checks_kept, image, label_bits, message,
+                    turned, turned_in_message, word_image)
 
 
 def listing(log):
@@ -37,6 +37,17 @@ def corners():
             image(first, message("Blank")), word_image(associated, link1.message_bits(second))]
 
 
+def modes():
+    """02 Item 2: digits left in each mode and in all; code 0; zeroed, and the check bits kept; spare bit, request."""
+    track, given, digits = FIRST["S4+"], SECOND["S3"], digits_of(*MODES)
+    zeros, absent = changed(given, **dict.fromkeys(MODES, 0)), changed(given, **dict.fromkeys(MODES))
+    left = turned_in_message(track, absent, 2, *digits)
+    images = [turned_in_message(track, changed(given, **{word: None}), 2, *digits_of(word)) for word in MODES]
+    return images + [left, image(track, zeros), link1.zeroed(left), checks_kept(left),
+                     turned_in_message(track, absent, 2, 29, *digits),
+                     turned_in_message(track, changed(absent, request=5), 2, *digits)]
+
+
 def pairs():
     return [image(FIRST[first], SECOND[second]) for first, second in LEGAL_PAIRS]
 
@@ -60,9 +71,6 @@ def refusals():
     for code in link1.NOT_USED["elevation"]:
         images += [image(message("S6", elevation=code), message("S4")),
                    image(message("S8"), message("S6", elevation=code))]
-    for word, first, last in link1.FIELDS["S3"]:
-        if word in link1.PRESENCE:
-            images += [turned_in_message(message("S8+"), message("S3"), 2, n) for n in range(first, last + 1)]
     faults = ("3", "4", "5", "6a", "6b", "7", "8a", "8b")
     return images + [faulty_image([one, two]) for at, one in enumerate(faults) for two in faults[at + 1:]]
 
@@ -83,10 +91,11 @@ def damaged():
 def fields():
     images = [turned_in_message(*pair_of(message(kind), which, other), which, n)
               for kind, which, other in PLACES for n in range(7, 50)]
-    for word, first, last in link1.FIELDS["S3"]:
-        if word in link1.PRESENCE:
-            images += [turned_in_message(message("S4+"), message("S3"), 2, link1.PRESENCE[word], n)
-                       for n in range(first, last + 1)]
+    for word in MODES:
+        images += [turned_in_message(message("S4+"), message("S3"), 2, link1.PRESENCE[word], n) for n in MODES[word]]
+    for word in MODES:
+        others = [link1.PRESENCE[other] for other in MODES if other != word]
+        images += [turned_in_message(message("S4+"), message("S3"), 2, *others, n) for n in MODES[word]]
     return images
 
 
@@ -102,8 +111,9 @@ def logs():
     """Each listed file's name and octets, in order."""
     full = b"".join(sixteen()) * 256
     return [("none", b""), ("short", P[:15]), ("left", P + Q + N + T[:7]), ("mixed", b"".join(mixed())),
-            ("corners", b"".join(corners())), ("pairs", b"".join(pairs())), ("refusals", b"".join(refusals())),
-            ("damaged", b"".join(damaged())), ("fields", b"".join(fields())), ("full", full), ("over", full + b"\x00")]
+            ("corners", b"".join(corners())), ("modes", b"".join(modes())), ("pairs", b"".join(pairs())),
+            ("refusals", b"".join(refusals())), ("damaged", b"".join(damaged())), ("fields", b"".join(fields())),
+            ("full", full), ("over", full + b"\x00")]
 
 
 def text(printed):

@@ -78,6 +78,13 @@ def turned(octets, *numbers):
     return link1.image_of(frame)
 
 
+def checks_kept(octets):
+    """An image with absent modes' codes zeroed (02 Item 2), but with the check bits as they came."""
+    frame = link1.image_frame(link1.zeroed(octets))
+    frame[122:128] = link1.image_frame(octets)[122:128]
+    return link1.image_of(frame)
+
+
 def label_bits(label):
     bits = {n: 0 for n in range(1, 50)}
     link1.write_bits(bits, 1, 6, label)

@@ -10,7 +10,7 @@ use lib.Dec.{eqb, leb, lit<, lit≤}
 use lib.ListN.{length, getD}
 use Rattle.bits.specs.Tests.{pick, both}
 use Rattle.bits.specs.Numbers.{sumOf}
-use Rattle.bits.specs.Octets.{bitAt}
+use Rattle.bits.specs.Octets.{bitAt, octetsOf}
 use Rattle.frame.specs.Frame.{startGood, marksGood, checksGood, columnOf, goodFrame}
 use Rattle.frame.specs.Words.{placeOf, wordOf, messageBit, dataBit, checkBit, groupBit, frameOf, imageOf}
 use Rattle.bits.proofs.TestLaws.{by-lt, every-all}
@@ -163,6 +163,11 @@ module _ (f : ℕ → ℕ) (bits : (n : ℕ) → f n < 2) (good : goodFrame f �
           let e : 128 ≡ n = omega arith in
           frame-at (wordOf f 1) (wordOf f 2) n 15 7 (omega arith) (omega arith) ∙ sym (final-one f good) ∙ ap f e))
 
+  -- so the image of its words has its bits
+  pub image-frame : imageOf (wordOf f 1) (wordOf f 2) ≡ octetsOf 16 f
+  unfolding imageOf
+  image-frame = octets-ext 16 (frameOf (wordOf f 1) (wordOf f 2)) f frame-same
+
 -- ---- the same of images
 
 module _ (first second : ℕ) where
@@ -192,8 +197,7 @@ module _ (first second : ℕ) where
 module _ (image : List ℕ) (size : length image ≡ 16) (octets : (k : ℕ) → getD image k 0 < 256) (good : goodFrame (bitAt image) ≡ true) where
   -- a good image is the image of its words
   pub image-back : imageOf (wordOf (bitAt image) 1) (wordOf (bitAt image) 2) ≡ image
-  unfolding imageOf
-  image-back = octets-ext 16 _ _ (frame-same (bitAt image) (bit-lt image) good) ∙ octets-bits image 16 size octets
+  image-back = image-frame (bitAt image) (bit-lt image) good ∙ octets-bits image 16 size octets
 
 -- so no two good images share their words
 pub words-tell : (s t : List ℕ)

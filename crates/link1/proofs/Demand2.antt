@@ -1,7 +1,15 @@
 -- DEMAND 2, from the crates that prove it. Assumes nothing.
 
--- an accepted frame closes again to the same 128 bits; a legal pair opens again unchanged; exactly the legal pairs close
-pub use Rattle.pair.proofs.Demand2.{opened-closes, closed-opens, legal-closes, closes-legal}
+-- an accepted frame closes to its zeroed image: the same bits with absent modes' codes zeroed and the check bits worked anew
+pub use Rattle.pair.proofs.Demand2.{opened-closes}
+-- which opens as the same pair and closes to itself; zeroing twice is zeroing once
+pub use Rattle.pair.proofs.Demand2.{zeroed-opens, zeroed-closes}
+pub use Rattle.pair.proofs.ZeroedLaws.{zeroed-once}
+-- an accepted frame with no digit left in an absent mode is its own zeroed image and closes to the same 128 bits, and no other is
+pub use Rattle.pair.proofs.Demand2.{clear-zeroed, clear-closes}
+pub use Rattle.pair.proofs.ZeroedLaws.{own-clear}
+-- a legal pair opens again unchanged; exactly the legal pairs close
+pub use Rattle.pair.proofs.Demand2.{closed-opens, legal-closes, closes-legal}
 -- the table that the code has says what the definition says, has so many yes, and keeps the papers' rules at any two kinds
 pub use Rattle.pair.proofs.Table.{pair-at, pairs-counted, pair-rules}
 -- a search gives the first good frame's position, and where it gives none there is none

@@ -33,6 +33,7 @@ use Rattle.track.specs.TrackText.{trackRefusal, trackedOf, textRefusal, textAft
 use Rattle.pair.specs.Pairs.{pairOf}
 use Rattle.pair.specs.Opening.{openRefusal, openOf}
 use Rattle.pair.specs.Closing.{closeRefusal, closeImage}
+use Rattle.pair.specs.Zeroed.{zeroedImage}
 use Rattle.shift.specs.Shift.{shiftRefusal, shiftedOf}
 use Rattle.link1.proofs.Asking.{verdict-of, open-image, kind-named, close-pair, send-after, hear-after, search-from, number-of, text-of, shift-by}
 use Rattle.link1.proofs.Asking.{nothing, pair, buffer, heard, message, value, told, answer, Row, _⇒_, answers, expected, track, at, octets, levels}
@@ -172,6 +173,13 @@ imageIffA = 0 ∷ 0xc7 ∷ 0x9c ∷ 0x86 ∷ 0xce ∷ 0xcd ∷ 0xff ∷ 0xba ∷
 abbrev imageIffB : List ℕ
 imageIffB = 0 ∷ 0xd7 ∷ 0x84 ∷ 0xb9 ∷ 0xb6 ∷ 0xa0 ∷ 0x81 ∷ 0xc1 ∷ 0xe4 ∷ 0x80 ∷ 0x80 ∷ 0xc9 ∷ 0x95 ∷ 0x80 ∷ 0x80 ∷ 0xfb ∷ []
 
+-- the same with digits left in the modes that are absent: Mode 1's, and those of Modes 3/A and 2
+abbrev imageDigitsA : List ℕ
+imageDigitsA = 0 ∷ 0xc7 ∷ 0x9c ∷ 0x86 ∷ 0xce ∷ 0xcd ∷ 0xff ∷ 0xba ∷ 0xe4 ∷ 0x92 ∷ 0xe4 ∷ 0xb6 ∷ 0x9f ∷ 0x93 ∷ 0xdd ∷ 0x91 ∷ []
+
+abbrev imageDigitsB : List ℕ
+imageDigitsB = 0 ∷ 0xd7 ∷ 0x84 ∷ 0xb9 ∷ 0xb6 ∷ 0xa0 ∷ 0x81 ∷ 0xc1 ∷ 0xe4 ∷ 0xbf ∷ 0xfe ∷ 0xc9 ∷ 0x95 ∷ 0x9f ∷ 0xff ∷ 0xdb ∷ []
+
 abbrev imageAmplifyingA : List ℕ
 imageAmplifyingA = 0 ∷ 0xc7 ∷ 0x9c ∷ 0x86 ∷ 0xce ∷ 0xcd ∷ 0xff ∷ 0xba ∷ 0xa4 ∷ 0xb4 ∷ 0xdc ∷ 0xe9 ∷ 0xe6 ∷ 0xfb ∷ 0xa6 ∷ 0xfb ∷ []
 
@@ -228,6 +236,8 @@ fields =
     ∷ (open-image imageStrobes ⇒ told 0 0 (pair (m.S6 (strobeA 11)) (m.S6 strobeB)))
     ∷ (open-image imageIffA ⇒ told 0 0 (pair (m.S4Plus trackA) (m.S3 (iffA 4))))
     ∷ (open-image imageIffB ⇒ told 0 0 (pair (m.S8Plus trackB) (m.S3 iffB)))
+    ∷ (open-image imageDigitsA ⇒ told 0 0 (pair (m.S4Plus trackA) (m.S3 (iffA 4))))
+    ∷ (open-image imageDigitsB ⇒ told 0 0 (pair (m.S8Plus trackB) (m.S3 iffB)))
     ∷ (open-image imageAmplifyingA ⇒ told 0 0 (pair (m.S4Plus trackA) (m.S5 (amplifyingA 6))))
     ∷ (open-image imageAmplifyingB ⇒ told 0 0 (pair (m.S8Plus trackB) (m.S5 amplifyingB)))
     ∷ (open-image imageCorners ⇒ told 0 0 (pair (m.S9 (cornerA (negsuc 1233) (pos 3007))) (m.S9 cornerB)))
@@ -288,6 +298,7 @@ closing =
     ∷ (close-pair far far (fives 16) ⇒ told 8 1 (buffer (fives 16)))
     ∷ (close-pair (at (pos 0)) far (fives 16) ⇒ told 8 2 (buffer (fives 16)))
     ∷ (close-pair (m.S4 trackA) (m.S8 trackB) (fives 16) ⇒ told 0 0 (buffer imageAB))
+    ∷ (close-pair (m.S8Plus trackB) (m.S3 iffB) imageDigitsB ⇒ told 0 0 (buffer imageIffB))
     ∷ (close-pair (m.S9 (cornerA (negsuc 1233) (pos 3007))) (m.S9 cornerB) (fives 16) ⇒ told 0 0 (buffer imageCorners))
     ∷ (close-pair (m.S9 cornerB) m.Blank (fives 16) ⇒ told 7 0 (buffer (fives 16)))
     ∷ []
@@ -295,6 +306,13 @@ closing =
 pub closing-hold : answers closing ≡ expected closing
 unfolding answer numOf sumOf tab octetsOf imageOf pairOf closeRefusal closeImage encodedOf
 closing-hold = refl
+
+-- zeroed images (02, item 2): the digits left in absent modes are gone and the check octet is worked anew; the other images are their own
+pub zeroed-are :
+    map zeroedImage (imageDigitsA ∷ imageDigitsB ∷ imageIffA ∷ imageIffB ∷ imageAB ∷ imageStrobes ∷ imageAmplifyingA ∷ imageCorners ∷ [])
+    ≡ imageIffA ∷ imageIffB ∷ imageIffA ∷ imageIffB ∷ imageAB ∷ imageStrobes ∷ imageAmplifyingA ∷ imageCorners ∷ []
+unfolding numOf sumOf tab octetsOf zeroedImage
+zeroed-are = refl
 
 -- sending: a one changes the level (01, 'From levels to a frame'); 2 buffer, 1, 3, each told before the next
 abbrev pub sending : List Row

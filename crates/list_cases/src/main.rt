@@ -19,6 +19,7 @@ fn main() {
     list(b"left");
     list(b"mixed");
     list(b"corners");
+    list(b"modes");
     list(b"pairs");
     list(b"refusals");
     list(b"damaged");

@@ -1,4 +1,5 @@
--- The two round trips of a message: what is read is written as it was, and what is written is read as it was. Assumes nothing.
+-- The two round trips of a message: what is read is written as it was, with the codes of absent modes zeroed, and what is written is read as it
+-- was. Assumes nothing.
 use mathlib.Core.Path.{_≡_, refl, sym, ap, ap₂, subst, _∙_}
 use mathlib.Core.Bool.{Bool, true, false}
 use mathlib.Core.List.{List, [], _∷_}
@@ -9,15 +10,16 @@ use borrow.Author.Tests.{eq-eqb, eqb-true}
 use lib.Dec.{T, eqb, eqb→eq}
 use lib.Pow.{pow-pos}
 use lib.Pow.{split as split-pow}
-use Rattle.bits.specs.Tests.{pick, both}
-use Rattle.bits.specs.Numbers.{fieldOf}
+use Rattle.bits.specs.Tests.{pick}
+use Rattle.bits.specs.Numbers.{numOf, fieldOf}
 use Rattle.bits.specs.Layout.{Field, fixed, widthOf, Values, allows, allowed, split, fits, join}
 use Rattle.bits.specs.Rules.{widthsOf, total}
 use Rattle.bits.specs.declared.Packed.{Packed}
 use Rattle.kind.specs.Layouts.{labelOf, layoutOf, wholeOf, allKinds, iffLayout}
-use Rattle.message.specs.Messages.{modeOf, presenceOf, codeOf, modeKept, modesKept, iffFrom, iffParts, madeOf, kindOf, partsOf, keptOf}
+use Rattle.message.specs.Messages.{modeOf, presenceOf, codeOf, iffFrom, iffParts, madeOf, kindOf, partsOf}
 use Rattle.kind.specs.Labels.{kindFrom, labelledOf}
 use Rattle.message.specs.Codec.{contentKept, messageIn, contentOf, encodedOf}
+use Rattle.message.specs.Zeroed.{wordFrom, isIff, zeroedBit}
 use Rattle.kind.specs.declared.Kind.{Kind}
 use Rattle.kind.specs.declared.Kind.the-variants.{Blank, S0, S3, S4, S4Plus, S5, S6, S8, S8Plus, S9}
 use Rattle.message.specs.declared.Mode.{Mode}
@@ -27,35 +29,17 @@ use Rattle.message.specs.declared.Message.{Message}
 use Rattle.message.specs.declared.Message.the-variants as m
 use Rattle.kind.specs.declared.Labelled.the-variants.{Known}
 use Rattle.message.specs.declared.Content.the-variants.{Good, Bad}
-use Rattle.bits.proofs.TestLaws.{zero-one, to-T, from-T, both-true, both-left, both-right, both-intro}
+use Rattle.bits.proofs.TestLaws.{clash, zero-one, to-T, from-T, both-right, both-intro}
+use Rattle.bits.proofs.NumberLaws.{num-ext}
 use Rattle.bits.proofs.LayoutLaws.{join-split, fits-split, split-join, allowed-join, first-join}
 use Rattle.kind.proofs.TableLaws.{each, wide}
+use Rattle.message.proofs.ZeroedLaws.{other-stays, zeroed-lt, zeroed-iff, label-is, iff-split, iff-allowed}
 
 -- ---- modes
-
-code-mode : (p : Bool) (n : ℕ) → T (modeKept p n) → codeOf (modeOf p n) ≡ n
-code-mode true n t = refl
-code-mode false n t = sym (eqb→eq n 0 t)
-
-presence-mode : (p : Bool) (n : ℕ) → presenceOf (modeOf p n) ≡ p
-presence-mode true n = refl
-presence-mode false n = refl
 
 mode-parts : (o : Mode) → modeOf (presenceOf o) (codeOf o) ≡ o
 mode-parts Absent = refl
 mode-parts (Present n) = refl
-
-mode-kept : (o : Mode) → T (modeKept (presenceOf o) (codeOf o))
-mode-kept Absent = tt
-mode-kept (Present n) = tt
-
-iff-parts-from : (vs : Values iffLayout) → T (modesKept vs) → iffParts (iffFrom vs) ≡ vs
-iff-parts-from = λ (s, (c3, (r, (em, (p1, (p2, (p3, (v, (s2, (c1, (s3, (c2, e)))))))))))) t.
-    let t3 : T (modeKept p3 c3) = both-left (modeKept p3 c3) (both (modeKept p1 c1) (modeKept p2 c2)) t in
-    let u : T (both (modeKept p1 c1) (modeKept p2 c2)) = both-right (modeKept p3 c3) (both (modeKept p1 c1) (modeKept p2 c2)) t in
-    let t1 : T (modeKept p1 c1) = both-left (modeKept p1 c1) (modeKept p2 c2) u in
-    let t2 : T (modeKept p2 c2) = both-right (modeKept p1 c1) (modeKept p2 c2) u in
-    λ i. (tt, (code-mode p3 c3 t3 i, (r, (em, (presence-mode p1 c1 i, (presence-mode p2 c2 i, (presence-mode p3 c3 i, (v, (tt, (code-mode p1 c1 t1 i, (tt, (code-mode p2 c2 t2 i, tt))))))))))))
 
 iff-from-parts : (x : Iff) → iffFrom (iffParts x) ≡ x
 iff-from-parts x = λ i. record {
@@ -81,40 +65,28 @@ made-parts (m.S8 t) = refl
 made-parts (m.S8Plus t) = refl
 made-parts (m.S9 c) = refl
 
-kept-parts : (msg : Message) → T (keptOf (kindOf msg) (partsOf msg))
-kept-parts m.Blank = tt
-kept-parts m.S0 = tt
-kept-parts (m.S3 x) =
-    both-intro (modeKept (presenceOf (x .mode3a)) (codeOf (x .mode3a)))
-    (both (modeKept (presenceOf (x .mode1)) (codeOf (x .mode1))) (modeKept (presenceOf (x .mode2)) (codeOf (x .mode2))))
-    (mode-kept (x .mode3a))
-    (both-intro (modeKept (presenceOf (x .mode1)) (codeOf (x .mode1))) (modeKept (presenceOf (x .mode2)) (codeOf (x .mode2)))
-    (mode-kept (x .mode1)) (mode-kept (x .mode2)))
-kept-parts (m.S4 t) = tt
-kept-parts (m.S4Plus t) = tt
-kept-parts (m.S5 a) = tt
-kept-parts (m.S6 s) = tt
-kept-parts (m.S8 t) = tt
-kept-parts (m.S8Plus t) = tt
-kept-parts (m.S9 c) = tt
-
 -- the word of a kind's values, if they fit
 abbrev packedAs : (k : Kind) → Values (layoutOf k) → Packed
 packedAs k vs =
     pick (fits (wholeOf k) (tt, vs)) (record { fits = true; word = join 0 (wholeOf k) (tt, vs) }) (record { fits = false; word = 0 })
 
-encoded-made : (k : Kind) (vs : Values (layoutOf k)) → T (keptOf k vs) → encodedOf (madeOf k vs) ≡ packedAs k vs
+-- of any kind but S.3 the values that are written are those that were read
+encoded-made : (k : Kind) (vs : Values (layoutOf k)) → eqb (labelOf k) (labelOf S3) ≡ false → encodedOf (madeOf k vs) ≡ packedAs k vs
 unfolding encodedOf
-encoded-made Blank vs t = refl
-encoded-made S0 vs t = refl
-encoded-made S3 vs t = ap (packedAs S3) (iff-parts-from vs t)
-encoded-made S4 vs t = refl
-encoded-made S4Plus vs t = refl
-encoded-made S5 vs t = refl
-encoded-made S6 vs t = refl
-encoded-made S8 vs t = refl
-encoded-made S8Plus vs t = refl
-encoded-made S9 vs t = refl
+encoded-made Blank vs other = refl
+encoded-made S0 vs other = refl
+encoded-made S3 vs other = absurd (clash refl other)
+encoded-made S4 vs other = refl
+encoded-made S4Plus vs other = refl
+encoded-made S5 vs other = refl
+encoded-made S6 vs other = refl
+encoded-made S8 vs other = refl
+encoded-made S8Plus vs other = refl
+encoded-made S9 vs other = refl
+
+encoded-iff : (vs : Values iffLayout) → encodedOf (m.S3 (iffFrom vs)) ≡ packedAs S3 (iffParts (iffFrom vs))
+unfolding encodedOf
+encoded-iff vs = refl
 
 kind-made : (k : Kind) (vs : Values (layoutOf k)) → kindOf (madeOf k vs) ≡ k
 kind-made Blank vs = refl
@@ -153,24 +125,48 @@ whole k w l g =
 abbrev pub packed : ℕ → Packed
 packed w = record { fits = true; word = w }
 
-module _ (k : Kind) (w : ℕ) (msg : Message) where
-  written : (b : Bool) → labelledOf w ≡ Known k → contentKept k w ≡ b → pick b (Good (messageIn k w)) Bad ≡ Good msg → encodedOf msg ≡ packed w
-  written false l q p = zero-one (cc)
-  written true l q p =
-      let t = both-true {a = allowed 6 (layoutOf k) w} {b = keptOf k (split 6 (layoutOf k) w)} q in
-      let g : T (allowed 0 (wholeOf k) w) = whole k w l (to-T (t .0)) in
-      let s : messageIn k w ≡ msg = cc in
-      let f : fits (wholeOf k) (split 0 (wholeOf k) w) ≡ true = from-T (fits (wholeOf k) (split 0 (wholeOf k) w)) (fits-split (wholeOf k) w g) in
-      sym (ap encodedOf s)
-      ∙ encoded-made k (split 6 (layoutOf k) w) (to-T (t .1))
-      ∙ ap₂ (λ (b : Bool) (n : ℕ). pick b (packed n) (record { fits = false; word = 0 })) f (join-split (wholeOf k) w g)
+-- the values of a word as its layout has it are packed as that word
+packed-split : (k : Kind) (w : ℕ) → T (allowed 0 (wholeOf k) w) → packedAs k (split 6 (layoutOf k) w) ≡ packed w
+packed-split k w g =
+    let f : fits (wholeOf k) (split 0 (wholeOf k) w) ≡ true = from-T (fits (wholeOf k) (split 0 (wholeOf k) w)) (fits-split (wholeOf k) w g) in
+    ap₂ (λ (b : Bool) (n : ℕ). pick b (packed n) (record { fits = false; word = 0 })) f (join-split (wholeOf k) w g)
 
-  -- what a word holds is written as that word
-  pub read-written : labelledOf w ≡ Known k → contentOf k w ≡ Good msg → encodedOf msg ≡ packed w
+module _ (b : ℕ → ℕ) (bits : (i : ℕ) → b i < 2) where
+  other-written : isIff b ≡ false → (k : Kind) → labelledOf (wordFrom b) ≡ Known k → T (contentKept k (wordFrom b)) → encodedOf (messageIn k (wordFrom b)) ≡ packed (wordFrom (zeroedBit b))
+  other-written e k l g =
+      let w = wordFrom b in
+      let label : labelOf k ≡ numOf (λ i. b (i + 1)) 6 = sym (label-from allKinds (w % 64) k l) ∙ label-is b bits in
+      let same : w ≡ wordFrom (zeroedBit b) = num-ext _ _ 49 (λ i _. sym (other-stays b e (i + 1))) in
+      encoded-made k (split 6 (layoutOf k) w) (ap (λ (n : ℕ). eqb n 19) label ∙ e) ∙ packed-split k w (whole k w l g) ∙ ap packed same
+
+  iff-written : isIff b ≡ true → T (contentKept S3 (wordFrom b)) → encodedOf (messageIn S3 (wordFrom b)) ≡ packed (wordFrom (zeroedBit b))
+  iff-written e g =
+      let w = wordFrom (zeroedBit b) in
+      let label : labelledOf w ≡ Known S3 = ap (kindFrom allKinds) (label-is (zeroedBit b) (zeroed-lt b bits) ∙ eqb-true _ _ (zeroed-iff b ∙ e)) in
+      encoded-iff (split 6 iffLayout (wordFrom b)) ∙ ap (packedAs S3) (sym (iff-split b bits e))
+      ∙ packed-split S3 w (whole S3 w label (subst T (sym (iff-allowed b bits)) g))
+
+  written : (k : Kind) → labelledOf (wordFrom b) ≡ Known k → T (contentKept k (wordFrom b)) → encodedOf (messageIn k (wordFrom b)) ≡ packed (wordFrom (zeroedBit b))
+  written k l g = go (isIff b) refl
+    where
+      go : (t : Bool) → isIff b ≡ t → encodedOf (messageIn k (wordFrom b)) ≡ packed (wordFrom (zeroedBit b))
+      go false e = other-written e k l g
+      go true e =
+          let named : Known S3 ≡ Known k = sym (ap (kindFrom allKinds) (label-is b bits ∙ eqb-true _ _ e)) ∙ l in
+          let s3 : S3 ≡ k = cc in
+          subst (λ (k : Kind). T (contentKept k (wordFrom b)) → encodedOf (messageIn k (wordFrom b)) ≡ packed (wordFrom (zeroedBit b))) s3 (iff-written e) g
+
+  -- what the word of a message's bits holds is written as the word of these bits with the codes of absent modes zeroed
+  pub read-written : (k : Kind) (msg : Message) → labelledOf (wordFrom b) ≡ Known k → contentOf k (wordFrom b) ≡ Good msg → encodedOf msg ≡ packed (wordFrom (zeroedBit b))
   unfolding contentOf
-  read-written l p = written (contentKept k w) l refl p
+  read-written k msg l p = go (contentKept k (wordFrom b)) refl p
+    where
+      go : (t : Bool) → contentKept k (wordFrom b) ≡ t → pick t (Good (messageIn k (wordFrom b))) Bad ≡ Good msg → encodedOf msg ≡ packed (wordFrom (zeroedBit b))
+      go false q p = zero-one (cc)
+      go true q p = let s : messageIn k (wordFrom b) ≡ msg = cc in sym (ap encodedOf s) ∙ written k l (to-T q)
 
-  -- and is of the word's kind
+module _ (k : Kind) (w : ℕ) (msg : Message) where
+  -- what a word holds is of the word's kind
   pub kind-read : contentOf k w ≡ Good msg → kindOf msg ≡ k
   unfolding contentOf
   kind-read p = go (contentKept k w) p
@@ -210,14 +206,11 @@ module _ (msg : Message) (w : ℕ) where
       let g : T (allowed 0 (wholeOf k) w) = subst (λ (n : ℕ). T (allowed 0 (wholeOf k) n)) j (allowed-join (wholeOf k) vs f) in
       let s : split 6 (layoutOf k) w ≡ partsOf msg =
       ap (split 6 (layoutOf k)) (sym j) ∙ ap (λ (x : Values (wholeOf k)). x .1) (split-join (wholeOf k) vs f) in
-      let o : T (keptOf k (split 6 (layoutOf k) w)) = subst (λ (x : Values (layoutOf k)). T (keptOf k x)) (sym s) (kept-parts msg) in
       let a : T (allowed 6 (layoutOf k) w) = both-right (eqb (w / 1 % 64) (labelOf k)) (allowed 6 (layoutOf k) w) g in
       record {
         label = ap labelledOf (sym j) ∙ ap (kindFrom allKinds) (first-join (fixed 6 (labelOf k)) (layoutOf k) vs f) ∙ labelled k;
         content =
-            ap (λ (b : Bool). pick b (Good (messageIn k w)) Bad)
-            (from-T (contentKept k w) (both-intro (allowed 6 (layoutOf k) w) (keptOf k (split 6 (layoutOf k) w)) a o))
-            ∙ ap Good (ap (madeOf k) s ∙ made-parts msg);
+            ap (λ (b : Bool). pick b (Good (messageIn k w)) Bad) (from-T (contentKept k w) a) ∙ ap Good (ap (madeOf k) s ∙ made-parts msg);
         short = subst (λ (n : ℕ). w < 2 ^ (6 + n)) (wide k) (allowed-lt 6 (layoutOf k) w a);
       }
 

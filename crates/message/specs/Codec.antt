@@ -2,23 +2,23 @@
 use mathlib.Core.Bool.{Bool, true, false}
 use mathlib.Core.List.{List}
 use Prim.Native.Nat.{ℕ}
-use Rattle.bits.specs.Tests.{pick, both}
+use Rattle.bits.specs.Tests.{pick}
 use Rattle.bits.specs.Layout.{split, allowed, fits, join}
 use Rattle.bits.specs.Rules.{rawOf}
 use Rattle.bits.specs.declared.Packed.{Packed}
 use Rattle.kind.specs.Layouts.{layoutOf, wholeOf}
 use Rattle.kind.specs.Tables.{padded}
 use Rattle.kind.specs.declared.Kind.{Kind}
-use Rattle.message.specs.Messages.{madeOf, kindOf, partsOf, keptOf}
+use Rattle.message.specs.Messages.{madeOf, kindOf, partsOf}
 use Rattle.message.specs.declared.Message.{Message}
 use Rattle.message.specs.declared.Content.{Content}
 use Rattle.message.specs.declared.Content.the-variants.{Good, Bad}
 
 -- ---- content
 
--- the word above its label is as the kind has it
+-- the word above its label is as the kind's layout has it
 abbrev pub contentKept : Kind → ℕ → Bool
-contentKept k word = both (allowed 6 (layoutOf k) word) (keptOf k (split 6 (layoutOf k) word))
+contentKept k word = allowed 6 (layoutOf k) word
 
 abbrev pub messageIn : Kind → ℕ → Message
 messageIn k word = madeOf k (split 6 (layoutOf k) word)

@@ -1,8 +1,6 @@
--- Messages and the values of their fields (001, Annex C, Appendix 3; 01, 'Messages'; 02, item 1).
+-- Messages and the values of their fields (001, Annex C, Appendix 3; 01, 'Messages'; 02, items 1 and 2).
 use mathlib.Core.Bool.{Bool, true, false}
 use Prim.Native.Nat.{ℕ}
-use lib.Dec.{eqb}
-use Rattle.bits.specs.Tests.{both}
 use Rattle.bits.specs.Layout.{Values}
 use Rattle.kind.specs.Layouts.{iffLayout, trackLayout, amplifyingLayout, strobeLayout, cornerLayout, layoutOf}
 use Rattle.kind.specs.declared.Kind.{Kind}
@@ -17,7 +15,7 @@ use Rattle.message.specs.declared.Corner.{Corner}
 use Rattle.message.specs.declared.Message.{Message}
 use Rattle.message.specs.declared.Message.the-variants as m
 
--- ---- a mode is absent, or present with its code
+-- ---- a mode is absent, or present with its code; the code of an absent mode is not looked at, and is written as zeros (02, item 2)
 
 abbrev pub modeOf : Bool → ℕ → Mode
 modeOf true n = Present n
@@ -30,11 +28,6 @@ presenceOf (Present n) = true
 abbrev pub codeOf : Mode → ℕ
 codeOf Absent = 0
 codeOf (Present n) = n
-
--- an absent mode's code bits are zero
-abbrev pub modeKept : Bool → ℕ → Bool
-modeKept true n = true
-modeKept false n = eqb n 0
 
 -- ---- the structs from the values of their fields, in the order of the layout, and back
 
@@ -50,10 +43,6 @@ iffFrom = λ (s, (c3, (r, (em, (p1, (p2, (p3, (v, (s2, (c1, (s3, (c2, e)))))))))
 
 abbrev pub iffParts : Iff → Values iffLayout
 iffParts i = (tt, (codeOf (i .mode3a), (i .request, (i .emergency, (presenceOf (i .mode1), (presenceOf (i .mode2), (presenceOf (i .mode3a), (i .validation, (tt, (codeOf (i .mode1), (tt, (codeOf (i .mode2), tt))))))))))))
-
-abbrev pub modesKept : Values iffLayout → Bool
-modesKept = λ (s, (c3, (r, (em, (p1, (p2, (p3, (v, (s2, (c1, (s3, (c2, e)))))))))))).
-    both (modeKept p3 c3) (both (modeKept p1 c1) (modeKept p2 c2))
 
 abbrev pub amplifyingFrom : Values amplifyingLayout → Amplifying
 amplifyingFrom = λ (a, (s, (i, (sp, (sim, (d, (t, (vx, (al, (sp2, (vy, e))))))))))).
@@ -136,16 +125,3 @@ partsOf (m.S6 s) = strobeParts s
 partsOf (m.S8 t) = trackParts t
 partsOf (m.S8Plus t) = trackParts t
 partsOf (m.S9 c) = cornerParts c
-
--- what the values of a kind must meet beyond their fields
-abbrev pub keptOf : (k : Kind) → Values (layoutOf k) → Bool
-keptOf Blank vs = true
-keptOf S0 vs = true
-keptOf S3 vs = modesKept vs
-keptOf S4 vs = true
-keptOf S4Plus vs = true
-keptOf S5 vs = true
-keptOf S6 vs = true
-keptOf S8 vs = true
-keptOf S8Plus vs = true
-keptOf S9 vs = true

@@ -119,9 +119,6 @@ pub fn read_content(k: Kind, word: u64) -> Content
     if !kind::is_laid_out(k, word) {
         return Content::Bad;
     }
-    if !reading::is_kept(k, word) {
-        return Content::Bad;
-    }
     Content::Good(reading::read_message(k, word))
 }
 

@@ -1,10 +1,12 @@
--- DEMAND 2: what opens closes to the same sixteen octets; a pair that closes opens again unchanged; and exactly the pairs of the
--- table with legal content close. Assumes nothing.
+-- DEMAND 2: what opens closes to its zeroed image, which opens as the same pair and closes to itself; it is its own zeroed image exactly if no
+-- absent mode's code has a digit left; a pair that closes opens again unchanged; and exactly the pairs of the table with legal content close.
+-- Assumes nothing.
 use mathlib.Core.Path.{_≡_, refl, sym, ap, ap₂, _∙_}
 use mathlib.Core.Bool.{true}
 use mathlib.Core.List.{List}
-use Prim.Native.Nat.{ℕ, _<_}
+use Prim.Native.Nat.{ℕ, _≤_, _<_}
 use borrow.Author.Tests.{eqb-true}
+use lib.Dec.{lit≤}
 use lib.ListN.{length, getD}
 use Rattle.bits.specs.Tests.{both}
 use Rattle.bits.specs.Octets.{bitAt}
@@ -12,7 +14,7 @@ use Rattle.bits.specs.declared.Packed.{Packed}
 use Rattle.refusal.specs.Refusals.{numbered, success}
 use Rattle.refusal.specs.declared.Refusal.{Refusal}
 use Rattle.frame.specs.Frame.{goodFrame, verdictOf}
-use Rattle.frame.specs.Words.{imageOf}
+use Rattle.frame.specs.Words.{placeOf, wordOf, imageOf}
 use Rattle.message.specs.Messages.{kindOf}
 use Rattle.kind.specs.Labels.{labelledOf, isKnown, kindNamed}
 use Rattle.message.specs.Codec.{contentOf, encodedOf}
@@ -23,12 +25,15 @@ use Rattle.message.specs.declared.Content.the-variants.{Good}
 use Rattle.pair.specs.Pairs.{pairOf}
 use Rattle.pair.specs.Opening.{isLabelled, wordKind, isContent, wordMessage, firstWord, secondWord, openChecks, openRefusal, openOf, openWords, openContents}
 use Rattle.pair.specs.Closing.{closeChecks, closeRefusal, closeImage}
+use Rattle.pair.specs.Zeroed.{messageOf, zeroedFrame, zeroedImage, Clear}
 use Rattle.pair.specs.declared.Opened.the-variants.{Pair, Refused}
 use Rattle.bits.proofs.TestLaws.{clash, zero-one}
+use Rattle.bits.proofs.OctetLaws.{bit-lt}
 use Rattle.refusal.proofs.CheckLaws.{Passed, success-passed, answer-is}
 use Rattle.frame.proofs.FrameLaws.{verdict-good, verdict-image}
-use Rattle.frame.proofs.WordLaws.{image-good, length-image, image-first, image-second, image-back}
+use Rattle.frame.proofs.WordLaws.{image-good, length-image, image-first, image-second}
 use Rattle.message.proofs.RoundTrip.{packed, read-written, kind-read, written-read}
+use Rattle.pair.proofs.ZeroedLaws.{zeroed-word, zeroed-frame, zeroed-once, clear-own}
 use Rattle.pair.proofs.PairLaws.{open-good, words-by, in-table, content-good, close-good, buffer-written}
 
 -- ---- a word whose label is known and whose content is legal
@@ -42,9 +47,6 @@ module _ (v : ℕ) (m : Message) (is : wordMessage v ≡ m) (kept : isContent v 
   unfolding contentOf
   content-is = rw (kept, is)
 
-  word-written : isLabelled v ≡ true → encodedOf m ≡ packed v
-  word-written e = read-written (wordKind v) v m (known-is (labelledOf v) e) content-is
-
   word-kind : kindOf m ≡ wordKind v
   word-kind = kind-read (wordKind v) v m content-is
 
@@ -55,7 +57,7 @@ module _ (first second : Message) where
     one : encodedOf first ≡ packed v
     two : encodedOf second ≡ packed w
 
-  -- ---- an image that opens closes to the same sixteen octets
+  -- ---- an image that opens closes to its zeroed image
 
   module _ (image : List ℕ) (opens : openOf image ≡ Pair first second) where
     answer : (openRefusal image .number ≡ success) × (Pair (wordMessage (firstWord image)) (wordMessage (secondWord image)) ≡ Pair first second)
@@ -73,7 +75,14 @@ module _ (first second : Message) where
     unfolding goodFrame
     good = let p = passed .1 in λ i. both (p .0 i) (both (p .1 .0 i) (p .1 .1 .0 i))
 
-    opened-words : Words (firstWord image) (secondWord image)
+    word-written : (k : ℕ) (m : Message) → 1 ≤ k → k ≤ 2 → wordMessage (wordOf (bitAt image) k) ≡ m → isLabelled (wordOf (bitAt image) k) ≡ true → isContent (wordOf (bitAt image) k) ≡ true
+        → encodedOf m ≡ packed (wordOf (zeroedFrame (bitAt image)) k)
+    word-written k m h l is label kept =
+        let v = wordOf (bitAt image) k in
+        read-written (messageOf (bitAt image) k) (λ i. bit-lt image (placeOf k i)) (wordKind v) m (known-is (labelledOf v) label) (content-is v m is kept)
+        ∙ ap packed (zeroed-word (bitAt image) (bit-lt image) good k h l)
+
+    opened-words : Words (wordOf (zeroedFrame (bitAt image)) 1) (wordOf (zeroedFrame (bitAt image)) 2)
     opened-words =
         let p = passed .1 .1 .1 .1 in
         let e = answer .1 in
@@ -83,18 +92,19 @@ module _ (first second : Message) where
         let kept-2 = p .1 .1 .1 .1 .0 in
         record {
           paired = ap₂ pairOf (word-kind (firstWord image) first a kept-1) (word-kind (secondWord image) second b kept-2) ∙ p .1 .1 .0;
-          one = word-written (firstWord image) first a kept-1 (p .0);
-          two = word-written (secondWord image) second b kept-2 (p .1 .0);
+          one = word-written 1 first (lit≤ tt) (lit≤ tt) a (p .0) kept-1;
+          two = word-written 2 second (lit≤ tt) (lit≤ tt) b (p .1 .0) kept-2;
         }
 
-    pub opened-closes : ((k : ℕ) → getD image k 0 < 256) → (buffer : List ℕ) → length buffer ≡ 16
-        → (closeRefusal first second buffer ≡ numbered success) × (closeImage first second buffer ≡ image)
-    opened-closes octets buffer sixteen =
+    pub opened-closes : (buffer : List ℕ) → length buffer ≡ 16
+        → (closeRefusal first second buffer ≡ numbered success) × (closeImage first second buffer ≡ zeroedImage image)
+    unfolding zeroedImage
+    opened-closes buffer sixteen =
         let x = opened-words in
         let e = close-good first second buffer sixteen (x .paired) (ap (λ (p : Packed). p .fits) (x .one)) (ap (λ (p : Packed). p .fits) (x .two)) in (
           e,
           sym (buffer-written first second buffer e) ∙ ap₂ (λ (p q : Packed). imageOf (p .word) (q .word)) (x .one) (x .two)
-              ∙ image-back image size octets good,
+              ∙ zeroed-frame (bitAt image) (bit-lt image) good,
         )
 
   -- ---- exactly the pairs of the table with legal content close
@@ -141,3 +151,27 @@ module _ (first second : Message) where
       ∙ sym (open-good s good)
       ∙ ap₂ openWords (image-first v w (written-read first v (x .one) .short)) (image-second v w (written-read second w (x .two) .short))
       ∙ closed-words v w x
+
+-- ---- the zeroed image
+
+module _ (first second : Message) where
+  -- of an image that opens, it opens as the same pair
+  pub zeroed-opens : (image : List ℕ) → openOf image ≡ Pair first second → openOf (zeroedImage image) ≡ Pair first second
+  zeroed-opens image opens =
+      let c = opened-closes first second image opens image (size first second image opens) in
+      ap openOf (sym (c .1)) ∙ closed-opens first second image (c .0)
+
+  -- and closes to itself
+  pub zeroed-closes : (image : List ℕ) → openOf (zeroedImage image) ≡ Pair first second → (buffer : List ℕ) → length buffer ≡ 16
+      → (closeRefusal first second buffer ≡ numbered success) × (closeImage first second buffer ≡ zeroedImage image)
+  zeroed-closes image opens buffer sixteen = let c = opened-closes first second (zeroedImage image) opens buffer sixteen in (c .0, c .1 ∙ zeroed-once image)
+
+  module _ (image : List ℕ) (opens : openOf image ≡ Pair first second) (octets : (k : ℕ) → getD image k 0 < 256) (clear : Clear image) where
+    -- an image that opens, and has no digit left in an absent mode's code, is its own zeroed image
+    pub clear-zeroed : zeroedImage image ≡ image
+    clear-zeroed = clear-own image (size first second image opens) octets (good first second image opens) clear
+
+    -- so it closes to the same sixteen octets
+    pub clear-closes : (buffer : List ℕ) → length buffer ≡ 16
+        → (closeRefusal first second buffer ≡ numbered success) × (closeImage first second buffer ≡ image)
+    clear-closes buffer sixteen = let c = opened-closes first second image opens buffer sixteen in (c .0, c .1 ∙ clear-zeroed)

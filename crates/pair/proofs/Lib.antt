@@ -1,3 +1,4 @@
 pub mod Table
 mod PairLaws
+pub mod ZeroedLaws
 pub mod Demand2

@@ -11,6 +11,10 @@ use Rattle.frame.proofs.PackingLaws.{stored, image-stored}
 use Rattle.frame.proofs.put_image.Statement.{statement}
 use Rattle.frame.proofs.put_image.Tie as tie
 
+-- sixteen octets have octet 15, also after a store
+last-there : (s : List ℕ) (i x : ℕ) → length s ≡ 16 → 15 < length (set s i x)
+last-there s i x e = omega (arith, length-set s i x, e)
+
 slice-write-image : tie.Need-slice-write-image
 slice-write-image c = search needs
 
@@ -27,14 +31,12 @@ check-octet-requires : tie.Need-check-octet-requires
 check-octet-requires c κs = search needs
 
 slice-write-image-3 : tie.Need-slice-write-image-3
-slice-write-image-3 c =
-    let d = c .before .before .before .before .put-message2 in
-    let h : 15 < length (set (d .last .0) 15 0) = omega (arith, length-set (d .last .0) 15 0, d .ensures .1) in h
+slice-write-image-3 c = let d = c .before .before .before .before .put-message2 in last-there (d .last .0) _ _ (d .ensures .1)
 
 same-length : tie.Need-same-length
 same-length c =
     let d = c .before .before .before .before .put-message2 in
-    length-set (set (d .last .0) 15 0) 15 (c .check-octet .result) ∙ length-set (d .last .0) 15 0 ∙ d .ensures .1
+    length-set (set (d .last .0) _ _) 15 (c .check-octet .result) ∙ length-set (d .last .0) _ _ ∙ d .ensures .1
     ∙ sym (c .before .before .before .before .before .before .before .before .before .before .before .pre)
 
 returns : tie.Need-returns
