@@ -5,20 +5,20 @@ use mathlib.Core.List.{List, [], _∷_}
 use Prim.Native.Nat.{ℕ, _+_, _-_, _*_, _/_, _%_, _≤_, _<_}
 use native.Mathlib.Nat.{zero-add}
 use native.Mathlib.Omega.{arith}
-use borrow.Author.Tests.{eqb-true, ne-eqb}
+use borrow.Author.Tests.{eqb-true, eq-eqb, ne-eqb}
 use lib.Count.{ones}
 use lib.Dec.{eqb}
 use lib.ListN.{length, getD}
 use Rattle.bits.specs.Tests.{both, every}
-use Rattle.bits.specs.Numbers.{numOf}
+use Rattle.bits.specs.Numbers.{numOf, sumOf}
 use Rattle.bits.specs.Octets.{bitAt}
 use Rattle.refusal.specs.Refusals.{success, badLength, badStart, badMark, badCheck, numbered}
 use Rattle.refusal.specs.Checks.{check, firstRefusal}
 use Rattle.refusal.specs.declared.Refusal.{Refusal}
 use Rattle.frame.specs.Frame.{startGood, marksGood, checksGood, columnOf, goodFrame, frameVerdict, imageChecks, verdictOf, frameAt}
-use Rattle.bits.proofs.TestLaws.{by-lt, both-true, every-at, every-ext}
+use Rattle.bits.proofs.TestLaws.{by-lt, both-true, every-all, every-at, every-ext}
 use Rattle.refusal.proofs.CheckLaws.{Passed, success-passed}
-use Rattle.bits.proofs.NumberLaws.{num-ext, num-ones, sum-ext}
+use Rattle.bits.proofs.NumberLaws.{num-ext, num-ones, sum-ext, sum-more}
 use Rattle.bits.proofs.OctetLaws.{bit-lt, octet-back}
 
 -- the frame at position 0 is that of the image
@@ -105,6 +105,19 @@ module _ (b : ℕ → ℕ) (good : goodFrame b ≡ true) where
 
   pub column-odd : (i : ℕ) → i < 6 → columnOf b (i + 1) % 2 ≡ 1
   column-odd i h = eqb-true _ _ (every-at _ 6 (parts .2) i h)
+
+-- ---- and what makes a frame good: the start group, the marks, the final one, and check bits worked from the data bits
+
+pub good-by : (b : ℕ → ℕ) → ((n : ℕ) → n < 8 → b (n + 1) ≡ 0) → ((g : ℕ) → g < 15 → b (8 * g + 9) ≡ 1) → b 128 ≡ 1
+    → ((j : ℕ) → 1 ≤ j → j ≤ 6 → b (121 + j) ≡ (sumOf (λ g. b (8 * g + 9 + j)) 14 + 1) % 2) → goodFrame b ≡ true
+unfolding goodFrame
+good-by b start mark final check =
+    let s : startGood b ≡ true = every-all _ 8 (λ n h. eq-eqb _ 0 (start n h)) in
+    let m : marksGood b ≡ true = ap₂ both (every-all _ 15 (λ g h. eq-eqb _ 1 (mark g h))) (eq-eqb _ 1 final) in
+    let odd : (j : ℕ) → 1 ≤ j → j ≤ 6 → columnOf b j % 2 ≡ 1 =
+    λ j h l. omega (arith, sum-more (λ g. b (8 * g + 9 + j)) 14, check j h l) in
+    let k : checksGood b ≡ true = every-all _ 6 (λ i h. eq-eqb _ 1 (odd (i + 1) (omega arith) (omega arith))) in
+    λ i. both (s i) (both (m i) (k i))
 
 -- the first octet of a good image is 0
 pub start-octet : (s : List ℕ) → goodFrame (bitAt s) ≡ true → getD s 0 0 < 256 → getD s 0 0 ≡ 0

@@ -5,18 +5,18 @@ use mathlib.Core.List.{List}
 use Prim.Native.Nat.{ℕ, _+_, _-_, _*_, _/_, _%_, _^_, _≤_, _<_}
 use native.Mathlib.Nat.{mod-lt, mod-eq-of-lt}
 use native.Mathlib.Omega.{arith}
-use borrow.Author.Tests.{eq-eqb, ne-eqb, le-leb, lt-leb}
+use borrow.Author.Tests.{ne-eqb, le-leb, lt-leb}
 use lib.Dec.{eqb, leb, lit<, lit≤}
 use lib.ListN.{length, getD}
-use Rattle.bits.specs.Tests.{pick, both}
+use Rattle.bits.specs.Tests.{pick}
 use Rattle.bits.specs.Numbers.{sumOf}
 use Rattle.bits.specs.Octets.{bitAt, octetsOf}
-use Rattle.frame.specs.Frame.{startGood, marksGood, checksGood, columnOf, goodFrame}
+use Rattle.frame.specs.Frame.{columnOf, goodFrame}
 use Rattle.frame.specs.Words.{placeOf, wordOf, messageBit, dataBit, checkBit, groupBit, frameOf, imageOf}
-use Rattle.bits.proofs.TestLaws.{by-lt, every-all}
+use Rattle.bits.proofs.TestLaws.{by-lt}
 use Rattle.bits.proofs.NumberLaws.{num-ext, num-of, num-bit, sum-ext, sum-more}
 use Rattle.bits.proofs.OctetLaws.{bit-lt, bit-octets, length-octets, octets-bits, octets-ext}
-use Rattle.frame.proofs.FrameLaws.{good-ext, start-zero, mark-one, final-one, column-odd}
+use Rattle.frame.proofs.FrameLaws.{good-ext, good-by, start-zero, mark-one, final-one, column-odd}
 
 -- ---- the frame of two words, bit by bit
 
@@ -69,21 +69,13 @@ module _ (a b : ℕ) where
 
   -- ---- the frame of two words is good
 
-  frame-column : (j : ℕ) → 1 ≤ j → j ≤ 6 → columnOf (frameOf a b) j % 2 ≡ 1
-  frame-column j h l =
-      let f : ℕ → ℕ = λ g. frameOf a b (8 * g + 9 + j) in
-      let e : sumOf f 14 ≡ sumOf (λ g. dataBit a b (g + 1) j) 14 = sum-ext _ _ 14 (λ g k. column-data g j k h l) in
-      omega (arith, sum-more f 14, e, frame-check j h l)
-
   pub frame-good : goodFrame (frameOf a b) ≡ true
-  unfolding goodFrame
   frame-good =
-      let s : startGood (frameOf a b) ≡ true =
-      every-all _ 8 (λ n h. eq-eqb _ 0 (frame-at (n + 1) 0 n (omega arith) (omega arith))) in
-      let m : marksGood (frameOf a b) ≡ true =
-      ap₂ both (every-all _ 15 (λ g h. eq-eqb _ 1 (frame-at (8 * g + 9) (g + 1) 0 (omega arith) (omega arith) ∙ group-mark (g + 1) (omega arith)))) refl in
-      let k : checksGood (frameOf a b) ≡ true = every-all _ 6 (λ i h. eq-eqb _ 1 (frame-column (i + 1) (omega arith) (omega arith))) in
-      λ i. both (s i) (both (m i) (k i))
+      good-by (frameOf a b)
+      (λ n h. frame-at (n + 1) 0 n (omega arith) (omega arith))
+      (λ g h. frame-at (8 * g + 9) (g + 1) 0 (omega arith) (omega arith) ∙ group-mark (g + 1) (omega arith))
+      refl
+      (λ j h l. frame-check j h l ∙ ap (λ (n : ℕ). (n + 1) % 2) (sym (sum-ext _ _ 14 (λ g k. column-data g j k h l))))
 
   -- ---- and gives both words back
 

@@ -19,7 +19,7 @@ use Rattle.kind.specs.Layouts.{labelOf, layoutOf, wholeOf, allKinds, iffLayout}
 use Rattle.message.specs.Messages.{modeOf, presenceOf, codeOf, iffFrom, iffParts, madeOf, kindOf, partsOf}
 use Rattle.kind.specs.Labels.{kindFrom, labelledOf}
 use Rattle.message.specs.Codec.{contentKept, messageIn, contentOf, encodedOf}
-use Rattle.message.specs.Zeroed.{wordFrom, isIff, zeroedBit}
+use Rattle.message.specs.Zeroed.{isIff, zeroedBit}
 use Rattle.kind.specs.declared.Kind.{Kind}
 use Rattle.kind.specs.declared.Kind.the-variants.{Blank, S0, S3, S4, S4Plus, S5, S6, S8, S8Plus, S9}
 use Rattle.message.specs.declared.Mode.{Mode}
@@ -33,7 +33,7 @@ use Rattle.bits.proofs.TestLaws.{clash, zero-one, to-T, from-T, both-right, bot
 use Rattle.bits.proofs.NumberLaws.{num-ext}
 use Rattle.bits.proofs.LayoutLaws.{join-split, fits-split, split-join, allowed-join, first-join}
 use Rattle.kind.proofs.TableLaws.{each, wide}
-use Rattle.message.proofs.ZeroedLaws.{other-stays, zeroed-lt, zeroed-iff, label-is, iff-split, iff-allowed}
+use Rattle.message.proofs.ZeroedLaws.{wordFrom, other-stays, zeroed-lt, zeroed-iff, label-is, iff-split, iff-allowed}
 
 -- ---- modes
 
@@ -132,38 +132,43 @@ packed-split k w g =
     ap₂ (λ (b : Bool) (n : ℕ). pick b (packed n) (record { fits = false; word = 0 })) f (join-split (wholeOf k) w g)
 
 module _ (b : ℕ → ℕ) (bits : (i : ℕ) → b i < 2) where
-  other-written : isIff b ≡ false → (k : Kind) → labelledOf (wordFrom b) ≡ Known k → T (contentKept k (wordFrom b)) → encodedOf (messageIn k (wordFrom b)) ≡ packed (wordFrom (zeroedBit b))
+  -- what the word of these bits holds as a message of a kind is written as their word with the codes of absent modes zeroed
+  abbrev IsWritten : Kind → Type 0
+  IsWritten k = T (contentKept k (wordFrom b)) → encodedOf (messageIn k (wordFrom b)) ≡ packed (wordFrom (zeroedBit b))
+
+  other-written : isIff b ≡ false → (k : Kind) → labelledOf (wordFrom b) ≡ Known k → IsWritten k
   other-written e k l g =
       let w = wordFrom b in
       let label : labelOf k ≡ numOf (λ i. b (i + 1)) 6 = sym (label-from allKinds (w % 64) k l) ∙ label-is b bits in
       let same : w ≡ wordFrom (zeroedBit b) = num-ext _ _ 49 (λ i _. sym (other-stays b e (i + 1))) in
       encoded-made k (split 6 (layoutOf k) w) (ap (λ (n : ℕ). eqb n 19) label ∙ e) ∙ packed-split k w (whole k w l g) ∙ ap packed same
 
-  iff-written : isIff b ≡ true → T (contentKept S3 (wordFrom b)) → encodedOf (messageIn S3 (wordFrom b)) ≡ packed (wordFrom (zeroedBit b))
+  iff-written : isIff b ≡ true → IsWritten S3
   iff-written e g =
       let w = wordFrom (zeroedBit b) in
       let label : labelledOf w ≡ Known S3 = ap (kindFrom allKinds) (label-is (zeroedBit b) (zeroed-lt b bits) ∙ eqb-true _ _ (zeroed-iff b ∙ e)) in
       encoded-iff (split 6 iffLayout (wordFrom b)) ∙ ap (packedAs S3) (sym (iff-split b bits e))
       ∙ packed-split S3 w (whole S3 w label (subst T (sym (iff-allowed b bits)) g))
 
-  written : (k : Kind) → labelledOf (wordFrom b) ≡ Known k → T (contentKept k (wordFrom b)) → encodedOf (messageIn k (wordFrom b)) ≡ packed (wordFrom (zeroedBit b))
-  written k l g = go (isIff b) refl
+  written : (k : Kind) → labelledOf (wordFrom b) ≡ Known k → IsWritten k
+  written k l = go (isIff b) refl
     where
-      go : (t : Bool) → isIff b ≡ t → encodedOf (messageIn k (wordFrom b)) ≡ packed (wordFrom (zeroedBit b))
-      go false e = other-written e k l g
+      go : (t : Bool) → isIff b ≡ t → IsWritten k
+      go false e = other-written e k l
       go true e =
           let named : Known S3 ≡ Known k = sym (ap (kindFrom allKinds) (label-is b bits ∙ eqb-true _ _ e)) ∙ l in
           let s3 : S3 ≡ k = cc in
-          subst (λ (k : Kind). T (contentKept k (wordFrom b)) → encodedOf (messageIn k (wordFrom b)) ≡ packed (wordFrom (zeroedBit b))) s3 (iff-written e) g
+          subst IsWritten s3 (iff-written e)
 
-  -- what the word of a message's bits holds is written as the word of these bits with the codes of absent modes zeroed
-  pub read-written : (k : Kind) (msg : Message) → labelledOf (wordFrom b) ≡ Known k → contentOf k (wordFrom b) ≡ Good msg → encodedOf msg ≡ packed (wordFrom (zeroedBit b))
+  pub read-written : (k : Kind) (msg : Message) → labelledOf (wordFrom b) ≡ Known k → contentOf k (wordFrom b) ≡ Good msg
+      → encodedOf msg ≡ packed (wordFrom (zeroedBit b))
   unfolding contentOf
-  read-written k msg l p = go (contentKept k (wordFrom b)) refl p
+  read-written k msg l p = go (contentKept k (wordFrom b)) (written k l) p
     where
-      go : (t : Bool) → contentKept k (wordFrom b) ≡ t → pick t (Good (messageIn k (wordFrom b))) Bad ≡ Good msg → encodedOf msg ≡ packed (wordFrom (zeroedBit b))
-      go false q p = zero-one (cc)
-      go true q p = let s : messageIn k (wordFrom b) ≡ msg = cc in sym (ap encodedOf s) ∙ written k l (to-T q)
+      go : (t : Bool) → (T t → encodedOf (messageIn k (wordFrom b)) ≡ packed (wordFrom (zeroedBit b)))
+          → pick t (Good (messageIn k (wordFrom b))) Bad ≡ Good msg → encodedOf msg ≡ packed (wordFrom (zeroedBit b))
+      go false h p = zero-one (cc)
+      go true h p = let s : messageIn k (wordFrom b) ≡ msg = cc in sym (ap encodedOf s) ∙ h tt
 
 module _ (k : Kind) (w : ℕ) (msg : Message) where
   -- what a word holds is of the word's kind

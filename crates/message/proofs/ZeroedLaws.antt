@@ -12,9 +12,13 @@ use Rattle.bits.specs.Numbers.{numOf, fieldOf}
 use Rattle.bits.specs.Layout.{noneOf, allowed, split}
 use Rattle.kind.specs.Layouts.{iffLayout}
 use Rattle.message.specs.Messages.{modeOf, presenceOf, codeOf, iffFrom, iffParts}
-use Rattle.message.specs.Zeroed.{wordFrom, presenceBit, isIff, isAbsent, isUnread, zeroedBit, NoDigits}
+use Rattle.message.specs.Zeroed.{presenceBit, isIff, isAbsent, isUnread, zeroedBit, NoDigits}
 use Rattle.bits.proofs.TestLaws.{both-true, both-false, every-at, rule-at}
 use Rattle.bits.proofs.NumberLaws.{num-lt, num-ext, num-field, num-bit, num-zero}
+
+-- the word of a message's bits
+abbrev pub wordFrom : (ℕ → ℕ) → ℕ
+wordFrom b = numOf (λ i. b (i + 1)) 49
 
 presence-mode : (p : Bool) (n : ℕ) → presenceOf (modeOf p n) ≡ p
 presence-mode true n = refl
@@ -122,44 +126,57 @@ module _ (b : ℕ → ℕ) (bits : (i : ℕ) → b i < 2) where
       ∙ sym (field-is b bits at width h)
 
   module _ (iff : isIff b ≡ true) where
-    inside : (i p : ℕ) → presenceBit i ≡ p → eqb p 0 ≡ false → zeroedBit b i ≡ pick (eqb (b p) 0) 0 (b i)
-    inside i p e z =
-        ap₂ (λ (s : Bool) (p : ℕ). pick (both s (isAbsent b p)) 0 (b i)) iff e
-        ∙ ap (λ (t : Bool). pick (pick t false (eqb (b p) 0)) 0 (b i)) z
+    -- a bit of a code, by its presence bit p
+    inside : (i p n : ℕ) → presenceBit i ≡ p → 1 ≤ p → b p ≡ n → zeroedBit b i ≡ pick (eqb n 0) 0 (b i)
+    inside i p n e h v =
+        ap₂ (λ (s : Bool) (p : ℕ). pick (both s (isAbsent b p)) 0 (b i)) iff e ∙ rw (ne-eqb p 0 (λ z. omega arith)) (ap (λ (n : ℕ). pick (eqb n 0) 0 (b i)) v)
 
-    -- the code of a mode is that of the mode as it was read, by the presence bit q + 1
-    code-is : (q at width : ℕ) → q < 49 → at + width ≤ 49 → eqb (q + 1) 0 ≡ false → every (λ i. eqb (presenceBit (at + i + 1)) (q + 1)) width ≡ true
+    -- a code is that of the mode as it was read, by the presence bit q + 1
+    code-is : (q at width : ℕ) → q < 49 → at + width ≤ 49 → every (λ i. eqb (presenceBit (at + i + 1)) (q + 1)) width ≡ true
         → fieldOf zeroed at width ≡ codeOf (modeOf (eqb (fieldOf came q 1) 1) (fieldOf came at width))
-    code-is q at width k h z all =
-        go (b (q + 1)) (bits (q + 1)) refl ∙ ap (λ (n : ℕ). codeOf (modeOf (eqb n 1) (fieldOf came at width))) (sym (num-bit (λ i. b (i + 1)) 49 q (λ i. bits (i + 1)) k))
+    code-is q at width k h code =
+        go (b (q + 1)) (bits (q + 1)) refl
+        ∙ ap (λ (n : ℕ). codeOf (modeOf (eqb n 1) (fieldOf came at width))) (sym (num-bit (λ i. b (i + 1)) 49 q (λ i. bits (i + 1)) k))
       where
-        bit-is : (i : ℕ) → i < width → zeroedBit b (at + i + 1) ≡ pick (eqb (b (q + 1)) 0) 0 (b (at + i + 1))
-        bit-is i l = inside (at + i + 1) (q + 1) (rule-at (λ i. presenceBit (at + i + 1)) (λ i. q + 1) width all i l) z
+        code-by : (n : ℕ) → b (q + 1) ≡ n → fieldOf zeroed at width ≡ numOf (λ i. pick (eqb n 0) 0 (b (at + i + 1))) width
+        code-by n e =
+            zeroed-field at width (λ i. pick (eqb n 0) 0 (b (at + i + 1))) h
+            (λ i l. inside (at + i + 1) (q + 1) n (rule-at (λ i. presenceBit (at + i + 1)) (λ i. q + 1) width code i l) (omega arith) e)
 
         go : (n : ℕ) → n < 2 → b (q + 1) ≡ n → fieldOf zeroed at width ≡ codeOf (modeOf (eqb n 1) (fieldOf came at width))
-        go zero _ e = zeroed-field at width (λ i. 0) h (λ i l. bit-is i l ∙ ap (λ (n : ℕ). pick (eqb n 0) 0 (b (at + i + 1))) e) ∙ num-zero width
-        go (suc zero) _ e =
-            zeroed-field at width (λ i. b (at + i + 1)) h (λ i l. bit-is i l ∙ ap (λ (n : ℕ). pick (eqb n 0) 0 (b (at + i + 1))) e) ∙ sym (field-is b bits at width h)
+        go zero _ e = code-by 0 e ∙ num-zero width
+        go (suc zero) _ e = code-by 1 e ∙ sym (field-is b bits at width h)
         go (suc (suc n)) l e = absurd (omega arith)
 
-    -- the values of the zeroed word are those of the message that the word as it came was read as
+    -- the values of the zeroed word are those of the message that the word as it came is read as
     pub iff-split : split 6 iffLayout zeroed ≡ iffParts (iffFrom (split 6 iffLayout came))
     unfolding every
     iff-split =
         let flag : (at : ℕ) → at + 1 ≤ 49 → every (λ i. eqb (presenceBit (at + i + 1)) 0) 1 ≡ true → eqb (fieldOf zeroed at 1) 1 ≡ eqb (fieldOf came at 1) 1
         = λ at h none. ap (λ (n : ℕ). eqb n 1) (stays at 1 h none) in
-        let code3 = code-is 26 8 12 (lit< tt) (lit≤ tt) refl refl in
-        let code1 = code-is 24 30 5 (lit< tt) (lit≤ tt) refl refl in
-        let code2 = code-is 25 37 12 (lit< tt) (lit≤ tt) refl refl in
-        let present : (at : ℕ) (n : ℕ) → at + 1 ≤ 49 → every (λ i. eqb (presenceBit (at + i + 1)) 0) 1 ≡ true
-        → eqb (fieldOf zeroed at 1) 1 ≡ presenceOf (modeOf (eqb (fieldOf came at 1) 1) n)
-        = λ at n h none. flag at h none ∙ sym (presence-mode (eqb (fieldOf came at 1) 1) n) in
-        λ i. (tt, (code3 i, (stays 20 3 (lit≤ tt) refl i, (flag 23 (lit≤ tt) refl i, (present 24 (fieldOf came 30 5) (lit≤ tt) refl i, (present 25 (fieldOf came 37 12) (lit≤ tt) refl i, (present 26 (fieldOf came 8 12) (lit≤ tt) refl i, (flag 27 (lit≤ tt) refl i, (tt, (code1 i, (tt, (code2 i, tt))))))))))))
+        let presence : (at code : ℕ) → at + 1 ≤ 49 → every (λ i. eqb (presenceBit (at + i + 1)) 0) 1 ≡ true
+        → eqb (fieldOf zeroed at 1) 1 ≡ presenceOf (modeOf (eqb (fieldOf came at 1) 1) code)
+        = λ at code h none. flag at h none ∙ sym (presence-mode (eqb (fieldOf came at 1) 1) code) in
+        let code3 = code-is 26 8 12 (lit< tt) (lit≤ tt) refl in
+        let request = stays 20 3 (lit≤ tt) refl in
+        let emergency = flag 23 (lit≤ tt) refl in
+        let present1 = presence 24 (fieldOf came 30 5) (lit≤ tt) refl in
+        let present2 = presence 25 (fieldOf came 37 12) (lit≤ tt) refl in
+        let present3 = presence 26 (fieldOf came 8 12) (lit≤ tt) refl in
+        let validation = flag 27 (lit≤ tt) refl in
+        let code1 = code-is 24 30 5 (lit< tt) (lit≤ tt) refl in
+        let code2 = code-is 25 37 12 (lit< tt) (lit≤ tt) refl in
+        λ i. (tt, (code3 i, (request i, (emergency i, (present1 i, (present2 i, (present3 i, (validation i, (tt, (code1 i, (tt, (code2 i, tt))))))))))))
 
   -- what is asked of a field is asked of none in a code
   pub iff-allowed : allowed 6 iffLayout zeroed ≡ allowed 6 iffLayout came
   unfolding every
   iff-allowed =
+      let spare7 = stays 6 2 (lit≤ tt) refl in
       let request = stays 20 3 (lit≤ tt) refl in
+      let spare29 = stays 28 2 (lit≤ tt) refl in
+      let spare36 = stays 35 2 (lit≤ tt) refl in
       let high : zeroed / 2 ^ 49 ≡ came / 2 ^ 49 = above (zeroedBit b) (zeroed-lt b bits) ∙ sym (above b bits) in
-      λ i. both (eqb (stays 6 2 (lit≤ tt) refl i) 0) (both (noneOf (1 ∷ 3 ∷ 5 ∷ 6 ∷ 7 ∷ []) (request i)) (both (eqb (stays 28 2 (lit≤ tt) refl i) 0) (both (eqb (stays 35 2 (lit≤ tt) refl i) 0) (eqb (high i) 0))))
+      λ i.
+      both (eqb (spare7 i) 0)
+      (both (noneOf (1 ∷ 3 ∷ 5 ∷ 6 ∷ 7 ∷ []) (request i)) (both (eqb (spare29 i) 0) (both (eqb (spare36 i) 0) (eqb (high i) 0))))

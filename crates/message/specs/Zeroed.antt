@@ -7,10 +7,6 @@ use lib.Dec.{eqb, leb}
 use Rattle.bits.specs.Tests.{pick, both}
 use Rattle.bits.specs.Numbers.{numOf}
 
--- the word of a message's bits
-abbrev pub wordFrom : (ℕ → ℕ) → ℕ
-wordFrom b = numOf (λ i. b (i + 1)) 49
-
 abbrev pub isBetween : ℕ → ℕ → ℕ → Bool
 isBetween first last n = both (leb first n) (leb n last)
 

@@ -75,7 +75,9 @@ module _ (first second : Message) where
     unfolding goodFrame
     good = let p = passed .1 in λ i. both (p .0 i) (both (p .1 .0 i) (p .1 .1 .0 i))
 
-    word-written : (k : ℕ) (m : Message) → 1 ≤ k → k ≤ 2 → wordMessage (wordOf (bitAt image) k) ≡ m → isLabelled (wordOf (bitAt image) k) ≡ true → isContent (wordOf (bitAt image) k) ≡ true
+    -- the message that is read from word k is written as word k of the zeroed frame
+    word-written : (k : ℕ) (m : Message) → 1 ≤ k → k ≤ 2
+        → wordMessage (wordOf (bitAt image) k) ≡ m → isLabelled (wordOf (bitAt image) k) ≡ true → isContent (wordOf (bitAt image) k) ≡ true
         → encodedOf m ≡ packed (wordOf (zeroedFrame (bitAt image)) k)
     word-written k m h l is label kept =
         let v = wordOf (bitAt image) k in

@@ -5,22 +5,21 @@ use mathlib.Core.List.{List}
 use Prim.Native.Nat.{ℕ, _+_, _-_, _*_, _/_, _%_, _≤_, _<_}
 use native.Mathlib.Nat.{mod-lt}
 use native.Mathlib.Omega.{arith}
-use borrow.Author.Tests.{eq-eqb, eqb-true, le-leb, leb-true}
-use lib.Dec.{eqb, leb, lit<, lit≤}
+use borrow.Author.Tests.{le-leb, leb-true}
+use lib.Dec.{eqb, lit<, lit≤}
 use lib.ListN.{length, getD}
 use Rattle.bits.specs.Tests.{pick, both}
-use Rattle.bits.specs.Numbers.{sumOf}
 use Rattle.bits.specs.Octets.{bitAt, octetsOf}
-use Rattle.frame.specs.Frame.{startGood, marksGood, checksGood, columnOf, goodFrame}
+use Rattle.frame.specs.Frame.{goodFrame}
 use Rattle.frame.specs.Words.{placeOf, wordOf, imageOf}
-use Rattle.message.specs.Zeroed.{wordFrom, isBetween, isUnread, zeroedBit, NoDigits}
+use Rattle.message.specs.Zeroed.{isBetween, zeroedBit, NoDigits}
 use Rattle.pair.specs.Zeroed.{messageOf, zeroedData, zeroedCheck, zeroedGroup, zeroedFrame, zeroedImage, Clear}
-use Rattle.bits.proofs.TestLaws.{both-true, both-false, every-all}
-use Rattle.bits.proofs.NumberLaws.{num-ext, sum-ext, sum-more}
+use Rattle.bits.proofs.TestLaws.{both-true, both-false}
+use Rattle.bits.proofs.NumberLaws.{num-ext, sum-ext}
 use Rattle.bits.proofs.OctetLaws.{bit-lt, bit-octets, octets-ext}
-use Rattle.frame.proofs.FrameLaws.{start-zero, mark-one, final-one}
+use Rattle.frame.proofs.FrameLaws.{start-zero, mark-one, final-one, good-by}
 use Rattle.frame.proofs.WordLaws.{image-frame, image-back}
-use Rattle.message.proofs.ZeroedLaws.{clear-stays, stays-clear, zeroed-lt, zeroed-ext, zeroed-twice}
+use Rattle.message.proofs.ZeroedLaws.{wordFrom, clear-stays, stays-clear, zeroed-lt, zeroed-ext, zeroed-twice}
 
 -- a number in a range passes its test, and the other way round
 between : (first last n : ℕ) → first ≤ n → n ≤ last → isBetween first last n ≡ true
@@ -66,26 +65,20 @@ module _ (b : ℕ → ℕ) where
 -- ---- of a good frame it is good, and has the zeroed words
 
 module _ (b : ℕ → ℕ) (bits : (n : ℕ) → b n < 2) (good : goodFrame b ≡ true) where
-  zeroed-column : (j : ℕ) → 1 ≤ j → j ≤ 6 → columnOf (zeroedFrame b) j % 2 ≡ 1
-  zeroed-column j h l =
-      let f : ℕ → ℕ = λ g. zeroedFrame b (8 * g + 9 + j) in
-      let e : sumOf f 14 ≡ sumOf (λ g. zeroedData b (g + 1) j) 14 =
-      sum-ext _ _ 14 (λ g k. zeroed-at b (8 * g + 9 + j) (g + 1) j (omega arith) (omega arith) ∙ group-data b (g + 1) j (omega arith) (omega arith) h (omega arith)) in
-      let c : f 14 ≡ zeroedCheck b j = zeroed-at b (8 * 14 + 9 + j) 15 j (omega arith) (omega arith) ∙ group-check b j h l in
-      omega (arith, sum-more f 14, e, c)
-
   zeroed-good : goodFrame (zeroedFrame b) ≡ true
-  unfolding goodFrame
   zeroed-good =
-      let s : startGood (zeroedFrame b) ≡ true =
-      every-all _ 8
-      (λ n h. eq-eqb _ 0 (zeroed-at b (n + 1) 0 n (omega arith) (omega arith) ∙ rw (both-false (isBetween 1 7 n), both-false (isBetween 1 6 n)) (let e : 8 * 0 + n + 1 ≡ n + 1 = omega arith in ap b e ∙ start-zero b good n h))) in
-      let m : marksGood (zeroedFrame b) ≡ true =
-      ap₂ both
-      (every-all _ 15 (λ g h. eq-eqb _ 1 (zeroed-at b (8 * g + 9) (g + 1) 0 (omega arith) (omega arith) ∙ (let e : 8 * (g + 1) + 0 + 1 ≡ 8 * g + 9 = omega arith in ap b e ∙ mark-one b good g h))))
-      (eq-eqb _ 1 (final-one b good)) in
-      let k : checksGood (zeroedFrame b) ≡ true = every-all _ 6 (λ i h. eq-eqb _ 1 (zeroed-column (i + 1) (omega arith) (omega arith))) in
-      λ i. both (s i) (both (m i) (k i))
+      good-by (zeroedFrame b)
+      (λ n h.
+      let e : 8 * 0 + n + 1 ≡ n + 1 = omega arith in
+      zeroed-at b (n + 1) 0 n (omega arith) (omega arith) ∙ rw (both-false (isBetween 1 7 n), both-false (isBetween 1 6 n)) (ap b e ∙ start-zero b good n h))
+      (λ g h.
+      let e : 8 * (g + 1) + 0 + 1 ≡ 8 * g + 9 = omega arith in
+      zeroed-at b (8 * g + 9) (g + 1) 0 (omega arith) (omega arith) ∙ ap b e ∙ mark-one b good g h)
+      (final-one b good)
+      (λ j h l.
+      let same : (g : ℕ) → g < 14 → zeroedFrame b (8 * g + 9 + j) ≡ zeroedData b (g + 1) j =
+      λ g k. zeroed-at b (8 * g + 9 + j) (g + 1) j (omega arith) (omega arith) ∙ group-data b (g + 1) j (omega arith) (omega arith) h (omega arith) in
+      zeroed-at b (121 + j) 15 j (omega arith) (omega arith) ∙ group-check b j h l ∙ ap (λ (n : ℕ). (n + 1) % 2) (sym (sum-ext _ _ 14 same)))
 
   pub zeroed-word : (k : ℕ) → 1 ≤ k → k ≤ 2 → wordFrom (zeroedBit (messageOf b k)) ≡ wordOf (zeroedFrame b) k
   zeroed-word k h l = num-ext _ _ 49 (λ i n. sym (zeroed-message b k (i + 1) h l (omega arith) (omega arith)))
