@@ -53,7 +53,7 @@ fn code(m: Mode) -> u64
     ensures { λ r. ⌜ r ≡ codeOf m ⌝ }
 {
     match m {
-        Mode::Absent => 0,
+        Mode::Absent => 0, // whatever digits came
         Mode::Present(n) => n as u64,
     }
 }
