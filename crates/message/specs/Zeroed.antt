@@ -7,21 +7,23 @@ use lib.Dec.{eqb, leb}
 use Rattle.bits.specs.Tests.{pick, both}
 use Rattle.bits.specs.Numbers.{numOf}
 
+-- n is one of first to last
 abbrev pub isBetween : ℕ → ℕ → ℕ → Bool
 isBetween first last n = both (leb first n) (leb n last)
 
--- the presence bit of the mode in whose code bit i stands: 27 of Mode 3/A, 25 of Mode 1, 26 of Mode 2; 0 where it stands in none
+-- paragraphs 5.3, 5.9, 5.11 and 5.6: the presence bit of the mode in whose code bit i stands, 27 of Mode 3/A, 25 of Mode 1, 26 of Mode 2; 0
+-- where it stands in none
 abbrev pub presenceBit : ℕ → ℕ
 presenceBit i =
     pick (isBetween 9 20 i) 27
     (pick (isBetween 31 35 i) 25
     (pick (isBetween 38 49 i) 26 0))
 
--- bits 1 to 6 are the label of S.3
+-- paragraph 5.1: bits 1 to 6 are the label of S.3
 abbrev pub isIff : (ℕ → ℕ) → Bool
 isIff b = eqb (numOf (λ i. b (i + 1)) 6) 19
 
--- the mode with this presence bit is absent
+-- there is a mode with this presence bit, and it is absent: the bit is zero
 abbrev pub isAbsent : (ℕ → ℕ) → ℕ → Bool
 isAbsent b presence = pick (eqb presence 0) false (eqb (b presence) 0)
 

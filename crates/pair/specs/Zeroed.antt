@@ -13,11 +13,12 @@ use Rattle.message.specs.Zeroed.{isBetween, zeroedBit, NoDigits}
 abbrev pub messageOf : (ℕ → ℕ) → ℕ → ℕ → ℕ
 messageOf b k i = b (placeOf k i)
 
--- bit j of data group g: groups 1 to 7 carry the first message's bits 1 to 49 in rising order, groups 8 to 14 the second's
+-- bit j of data group g: groups 1 to 7 carry the first message's bits 1 to 49 in rising order, groups 8 to 14 the second's (001, Annex A,
+-- Appendix 3, Figures A3-1 and A3-2)
 abbrev pub zeroedData : (ℕ → ℕ) → ℕ → ℕ → ℕ
 zeroedData b g j = zeroedBit (messageOf b ((g - 1) / 7 + 1)) (7 * ((g - 1) % 7) + j)
 
--- check bit j makes odd the number of ones among bit j of the fourteen data groups and itself
+-- check bit j makes odd the number of ones among bit j of the fourteen data groups and itself (the same, paragraph 3)
 abbrev pub zeroedCheck : (ℕ → ℕ) → ℕ → ℕ
 zeroedCheck b j = (sumOf (λ g. zeroedData b (g + 1) j) 14 + 1) % 2
 
