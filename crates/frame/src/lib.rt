@@ -4,11 +4,11 @@
 ghost use mathlib.Core.Path.{_≡_};
 ghost use Prim.Native.Nat.{_+_, _*_, _≤_, _<_};
 ghost use lib.ListN.{length};
-ghost use Rattle.bits.specs.Numbers.{numOf, written};
+ghost use Rattle.bits.specs.Numbers.{numOf, tab};
 ghost use Rattle.bits.specs.Octets.{bitAt};
 ghost use Rattle.frame.specs.Frame.{startGood, marksGood, checksGood, frameVerdict, verdictOf, frameAt, Lies};
-ghost use Rattle.frame.specs.Words.{placeOf, wordOf, imageOf};
-ghost use Rattle.frame.specs.Packing.{dataOctet, checkOctet};
+ghost use Rattle.frame.specs.Words.{wordOf, imageOf};
+ghost use Rattle.frame.specs.Packing.{dataGroup, turnedOf, messageStored, checkOctet};
 use refusal::Refusal;
 
 // The start group of the frame at a position: eight zeros.
@@ -97,51 +97,68 @@ pub fn verdict(image: &[u8]) -> Refusal
     verdict_at(image, 0)
 }
 
-// The frame bit of bit i of message k.
-fn place(k: usize, i: usize) -> usize
-    requires { ⌜ (1 ≤ k) × (k ≤ 2) × (1 ≤ i) × (i ≤ 49) ⌝ }
-    ensures { λ r. ⌜ r ≡ placeOf k i ⌝ }
+// A message is printed in seven groups.
+const GROUPS: usize = 7;
+
+// Each has seven bits: group 1 the message's bits 1 to 7, group 7 its bits 43 to 49.
+const BITS: u32 = 7;
+
+// Group `group` of message k is this data group of the frame, 1 to 14, and this octet of the image: octet 0 is the start group.
+fn data_group(k: usize, group: usize) -> usize
+    requires { ⌜ (1 ≤ k) × (k ≤ 2) × (1 ≤ group) × (group ≤ 7) ⌝ }
+    ensures { λ r. ⌜ r ≡ dataGroup k group ⌝ }
 {
-    10 + 56 * (k - 1) + 8 * ((i - 1) / 7) + (i - 1) % 7
+    GROUPS * (k - 1) + group
 }
 
-// The word of message k, bit by bit.
+// Seven bits the other way round: bit 1 of a group comes first in its octet, where it weighs most, and weighs least in the word.
+// The octet C4, which is 44 without its mark, gives 11: label 17.
+const TURNED: [u8; 128] = *b"\
+    \x00\x40\x20\x60\x10\x50\x30\x70\x08\x48\x28\x68\x18\x58\x38\x78\
+    \x04\x44\x24\x64\x14\x54\x34\x74\x0c\x4c\x2c\x6c\x1c\x5c\x3c\x7c\
+    \x02\x42\x22\x62\x12\x52\x32\x72\x0a\x4a\x2a\x6a\x1a\x5a\x3a\x7a\
+    \x06\x46\x26\x66\x16\x56\x36\x76\x0e\x4e\x2e\x6e\x1e\x5e\x3e\x7e\
+    \x01\x41\x21\x61\x11\x51\x31\x71\x09\x49\x29\x69\x19\x59\x39\x79\
+    \x05\x45\x25\x65\x15\x55\x35\x75\x0d\x4d\x2d\x6d\x1d\x5d\x3d\x7d\
+    \x03\x43\x23\x63\x13\x53\x33\x73\x0b\x4b\x2b\x6b\x1b\x5b\x3b\x7b\
+    \x07\x47\x27\x67\x17\x57\x37\x77\x0f\x4f\x2f\x6f\x1f\x5f\x3f\x7f";
+
+// The table, once for a whole message: a constant is copied where it is used.
+fn turning() -> [u8; 128]
+    ensures { λ r. ⌜ r ≡ tab turnedOf 128 ⌝ }
+{
+    TURNED
+}
+
+// The word of message k, group by group: the seven bits of each octet, without the mark, go to their place.
 pub fn word(image: &[u8], k: usize) -> u64
     requires { ⌜ (1 ≤ k) × (k ≤ 2) × (length (now image) ≡ 16) ⌝ }
     ensures { λ r. ⌜ r ≡ wordOf (bitAt (now (image .entry))) k ⌝ }
 {
+    let turned = turning();
     let mut gathered: u64 = 0;
-    let mut i: usize = 0;
-    while i < 49 {
-        gathered |= (bits::bit(image, place(k, i + 1)) as u64) << i;
-        i += 1;
+    let mut group: usize = 1;
+    while group <= GROUPS {
+        let octet = image[data_group(k, group)];
+        let seven = turned[(octet & 127) as usize];
+        gathered = bits::place(gathered, BITS * (group as u32 - 1), BITS, seven as u64);
+        group += 1;
     }
     gathered
 }
 
-// The octet of a message's group g, from 0: the mark, and the group's seven bits, bit by bit.
-fn data_octet(word: u64, g: usize) -> u8
-    requires { ⌜ g < 7 ⌝ }
-    ensures { λ r. ⌜ r ≡ dataOctet word g ⌝ }
+// The octets of message k, group by group: a mark, and the seven bits from their place in the word.
+fn put_message(image: &mut [u8], k: usize, word: u64)
+    requires { ⌜ (1 ≤ k) × (k ≤ 2) × (length (now image) ≡ 16) ⌝ }
+    ensures { λ r. ⌜ (now (image .exit) ≡ messageStored (now (image .entry)) k word) × (length (now (image .exit)) ≡ 16) ⌝ }
 {
-    let mut information: u8 = 0;
-    let mut i: usize = 0;
-    while i < 7 {
-        information |= (((word >> (7 * g + (6 - i))) & 1) as u8) << i;
-        i += 1;
-    }
-    128 | information
-}
-
-// The seven octets of a message, from octet `at` of the image on.
-fn put_message(image: &mut [u8], at: usize, word: u64)
-    requires { ⌜ (at + 7 ≤ 16) × (length (now image) ≡ 16) ⌝ }
-    ensures { λ r. ⌜ (now (image .exit) ≡ written (now (image .entry)) at (dataOctet word) 7) × (length (now (image .exit)) ≡ 16) ⌝ }
-{
-    let mut g: usize = 0;
-    while g < 7 {
-        image[at + g] = data_octet(word, g);
-        g += 1;
+    let turned = turning();
+    let mut group: usize = 1;
+    while group <= GROUPS {
+        let seven = bits::field(word, BITS * (group as u32 - 1), BITS);
+        let octet = 128 | turned[seven as usize];
+        image[data_group(k, group)] = octet;
+        group += 1;
     }
 }
 
@@ -166,7 +183,7 @@ pub fn put_image(first: u64, second: u64, image: &mut [u8])
 {
     image[0] = 0;
     put_message(image, 1, first);
-    put_message(image, 8, second);
+    put_message(image, 2, second);
     image[15] = 0;
     let check = check_octet(image);
     image[15] = check;

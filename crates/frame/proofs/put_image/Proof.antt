@@ -5,8 +5,7 @@ use Prim.Native.Nat.{ℕ, _<_}
 use native.Mathlib.Omega.{arith}
 use borrow.Author.Needs.{needs}
 use lib.ListN.{length, set, length-set}
-use Rattle.bits.specs.Numbers.{written}
-use Rattle.frame.specs.Packing.{dataOctet, checkOctet}
+use Rattle.frame.specs.Packing.{messageStored, checkOctet}
 use Rattle.frame.proofs.PackingLaws.{stored, image-stored}
 use Rattle.frame.proofs.put_image.Statement.{statement}
 use Rattle.frame.proofs.put_image.Tie as tie
@@ -46,7 +45,7 @@ returns c =
     let begin = c .before .before .before .before .before .before .before .before .before .before .before in
     let a = begin .args in
     let e : set (second .last .0) 15 0 ≡ stored (a .image .now) (a .first) (a .second) =
-    ap (λ (l : List ℕ). set l 15 0) (second .ensures .0 ∙ ap (λ (l : List ℕ). written l 8 (dataOctet (a .second)) 7) (first .ensures .0)) in
+    ap (λ (l : List ℕ). set l 15 0) (second .ensures .0 ∙ ap (λ (l : List ℕ). messageStored l 2 (a .second)) (first .ensures .0)) in
     ap₂ (λ (l : List ℕ) (x : ℕ). set l 15 x) e (c .check-octet .ensures ∙ ap checkOctet e) ∙ image-stored (a .first) (a .second) (a .image .now) (begin .pre)
 
 pub put-image-spec : {M : Type 1} → statement M

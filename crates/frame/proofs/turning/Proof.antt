@@ -1,0 +1,12 @@
+-- `frame::turning` meets its contract: one computed test of the whole table. Assumes nothing.
+use mathlib.Core.Path.{refl}
+use Rattle.bits.specs.Numbers.{numOf, tab}
+use Rattle.frame.proofs.turning.Statement.{statement}
+use Rattle.frame.proofs.turning.Tie as tie
+
+returns : tie.Need-returns
+unfolding tab numOf
+returns c = refl
+
+pub turning-spec : {M : Type 1} → statement M
+turning-spec = tie.close (tie.spec returns)
