@@ -100,6 +100,17 @@ fn keeps(rule: u64, n: u64) -> bool
     (rule >> n) % 2 == 0
 }
 
+// Whether a field of a word keeps its rule. Most fields are free, and need not be taken out of the word.
+fn is_kept(word: u64, low: u32, width: u32, rule: u64) -> bool
+    requires { ⌜ low + width < 64 ⌝ }
+    ensures { λ r. ⌜ r ≡ ruleAllows rule (fieldOf word low width) ⌝ }
+{
+    if rule == 0 {
+        return true;
+    }
+    keeps(rule, field(word, low, width))
+}
+
 // Whether the fields of a word above its `low` bits keep their rules, with no bit above them.
 pub fn is_allowed(word: u64, low: u32, widths: &[u32], rules: &[u64]) -> bool
     requires { ⌜ (length (now widths) ≡ length (now rules)) × (low + total (now widths) < 64) ⌝ }
@@ -109,7 +120,7 @@ pub fn is_allowed(word: u64, low: u32, widths: &[u32], rules: &[u64]) -> bool
     let mut i = 0;
     while i < widths.len() {
         let width = widths[i];
-        if !keeps(rules[i], field(word, at, width)) {
+        if !is_kept(word, at, width, rules[i]) {
             return false;
         }
         at += width;

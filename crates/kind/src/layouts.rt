@@ -72,25 +72,22 @@ const CORNER: Table = Table {
     rules: [0, FIXED, 0, 0, 0, FIXED, 0, 0, 0, 0, 0, 0, 0],
 };
 
-// The layouts in the order of the kinds' numbers.
-const LAYOUTS: [Table; crate::KINDS] = [
-    BLANK,
-    TEST,
-    IFF,
-    TRACK,
-    TRACK,
-    AMPLIFYING,
-    STROBE,
-    TRACK,
-    TRACK,
-    CORNER,
-];
-
 // The layout of a kind.
 pub fn layout(k: Kind) -> Table
     ensures { λ r. ⌜ r ≡ tableOf (layoutOf k) ⌝ }
 {
-    LAYOUTS[crate::number(k)]
+    match k {
+        Kind::Blank => BLANK,
+        Kind::S0 => TEST,
+        Kind::S3 => IFF,
+        Kind::S4 => TRACK,
+        Kind::S4Plus => TRACK,
+        Kind::S5 => AMPLIFYING,
+        Kind::S6 => STROBE,
+        Kind::S8 => TRACK,
+        Kind::S8Plus => TRACK,
+        Kind::S9 => CORNER,
+    }
 }
 
 // Whether a word above its label is as the kind's layout has it.

@@ -1,11 +1,11 @@
 -- `bits::is_allowed` meets its contract. The loop's invariant: the fields passed keep their rules. Assumes nothing.
-use mathlib.Core.Path.{refl, ap, sym, _∙_}
+use mathlib.Core.Path.{refl, sym, _∙_}
 use Prim.Native.Nat.{_-_}
 use native.Mathlib.Omega.{arith}
 use borrow.Author.Needs.{needs}
 use borrow.Author.Tests.{not-true, not-false}
-use lib.ListN.{length, getD}
-use Rattle.bits.specs.Rules.{ruled, ruleAllows}
+use lib.ListN.{length}
+use Rattle.bits.specs.Rules.{ruled}
 use Rattle.bits.proofs.RuleLaws.{Ruling, ruling-room, ruling-more, ruling-bad, ruling-done}
 use Rattle.bits.proofs.is_allowed.Statement.{statement}
 use Rattle.bits.proofs.is_allowed.Tie as tie
@@ -25,28 +25,23 @@ mul-width c = search needs
 shared-slice-read-width : tie.Need-shared-slice-read-width Inv-loop μ-loop
 shared-slice-read-width c = search needs
 
-mul-keeps : tie.Need-mul-keeps Inv-loop μ-loop
-mul-keeps c = search needs
+mul-is-kept : tie.Need-mul-is-kept Inv-loop μ-loop
+mul-is-kept c = search needs
 
-shared-slice-read-keeps : tie.Need-shared-slice-read-keeps Inv-loop μ-loop
-shared-slice-read-keeps c = search needs
+shared-slice-read-is-kept : tie.Need-shared-slice-read-is-kept Inv-loop μ-loop
+shared-slice-read-is-kept c = search needs
 
-field-requires : tie.Need-field-requires Inv-loop μ-loop
-field-requires c κs = ruling-room (c .before .before .before .loop .inv) (omega arith) (omega arith)
-
-keeps-requires : tie.Need-keeps-requires Inv-loop μ-loop
-keeps-requires c κs = search needs
+is-kept-requires : tie.Need-is-kept-requires Inv-loop μ-loop
+is-kept-requires c κs = ruling-room (c .before .before .before .loop .inv) (omega arith) (omega arith)
 
 returns : tie.Need-returns Inv-loop μ-loop
 returns c =
-    let at-loop = c .before .before .before .before .before .before in
-    let rule = getD (at-loop .before .before .before .args .rules .now) (at-loop .loop .i) 0 in
-    sym (ruling-bad (at-loop .loop .inv) (omega arith) (omega arith)
-    (sym (c .before .keeps .ensures ∙ ap (ruleAllows rule) (c .before .before .field .ensures)) ∙ not-true _ (c .if1 .taken)))
+    let at-loop = c .before .before .before .before .before in
+    sym (ruling-bad (at-loop .loop .inv) (omega arith) (omega arith) (sym (c .before .is-kept .ensures) ∙ not-true _ (c .if1 .taken)))
 
 add-at : tie.Need-add-at Inv-loop μ-loop
 add-at c =
-    let at-loop = c .before .before .before .before .before .before in
+    let at-loop = c .before .before .before .before .before in
     omega (arith, ruling-room (at-loop .loop .inv) (omega arith) (omega arith))
 
 add-i : tie.Need-add-i Inv-loop μ-loop
@@ -57,10 +52,8 @@ loop-less c = search needs
 
 loop-again : tie.Need-loop-again Inv-loop μ-loop
 loop-again c =
-    let at-loop = c .before .before .before .before .before .before in
-    let rule = getD (at-loop .before .before .before .args .rules .now) (at-loop .loop .i) 0 in
-    ruling-more (at-loop .loop .inv) (omega arith) (omega arith)
-    (sym (c .before .keeps .ensures ∙ ap (ruleAllows rule) (c .before .before .field .ensures)) ∙ not-false _ (c .if1 .left))
+    let at-loop = c .before .before .before .before .before in
+    ruling-more (at-loop .loop .inv) (omega arith) (omega arith) (sym (c .before .is-kept .ensures) ∙ not-false _ (c .if1 .left))
 
 cast-result : tie.Need-cast-result Inv-loop μ-loop
 cast-result c = omega (arith, c .before .loop .inv .room)
@@ -80,10 +73,9 @@ is-allowed-spec =
     loop-holds
     mul-width
     shared-slice-read-width
-    mul-keeps
-    shared-slice-read-keeps
-    field-requires
-    keeps-requires
+    mul-is-kept
+    shared-slice-read-is-kept
+    is-kept-requires
     returns
     add-at
     add-i

@@ -1,38 +1,100 @@
--- `kind::layouts::layout` meets its contract. Assumes nothing.
-use mathlib.Core.Path.{_≡_, ap, _∙_}
-use mathlib.Core.List.{List, map}
-use Prim.Native.Nat.{ℕ}
-use lib.ListN.{getD}
-use Rattle.bits.specs.Numbers.{numOf}
-use Rattle.kind.specs.Layouts.{allKinds, numberOf, layoutOf}
-use Rattle.kind.specs.Tables.{tableOf}
-use Rattle.kind.specs.declared.Kind.{Kind}
-use Rattle.kind.specs.declared.Table.{Table}
-use Rattle.kind.proofs.TableLaws.{row-at}
+-- `kind::layouts::layout` meets its contract: each table is computed to be its layout's. Assumes nothing.
 use borrow.Author.Needs.{needs}
+use Rattle.bits.specs.Numbers.{numOf}
 use Rattle.kind.proofs.layouts.layout.Statement.{statement}
 use Rattle.kind.proofs.layouts.layout.Tie as tie
 
-number-requires : tie.Need-number-requires
-number-requires c κs = search needs
+enum-told : tie.Need-enum-told
+enum-told c = search needs
 
-mul-result : tie.Need-mul-result
-mul-result c = search needs
+enum-told-2 : tie.Need-enum-told-2
+enum-told-2 c = search needs
 
-array-copy-out-result : tie.Need-array-copy-out-result
-array-copy-out-result c = search needs
+enum-told-3 : tie.Need-enum-told-3
+enum-told-3 c = search needs
 
--- the tables, as the code has them
-unfoldable tables : List Table
-tables = map (λ (k : Kind). tableOf (layoutOf k)) allKinds
+enum-told-4 : tie.Need-enum-told-4
+enum-told-4 c = search needs
 
-table-at : (k : Kind) (d : Table) → getD tables (numberOf k) d ≡ tableOf (layoutOf k)
-unfolding tables
-table-at k d = row-at (λ (k : Kind). tableOf (layoutOf k)) k d
+enum-told-5 : tie.Need-enum-told-5
+enum-told-5 c = search needs
+
+enum-told-6 : tie.Need-enum-told-6
+enum-told-6 c = search needs
+
+enum-told-7 : tie.Need-enum-told-7
+enum-told-7 c = search needs
+
+enum-told-8 : tie.Need-enum-told-8
+enum-told-8 c = search needs
+
+enum-told-9 : tie.Need-enum-told-9
+enum-told-9 c = search needs
+
+enum-told-10 : tie.Need-enum-told-10
+enum-told-10 c = search needs
 
 returns : tie.Need-returns
-unfolding tables numOf
-returns c = ap (λ (n : ℕ). getD tables n _) (c .before .number .ensures .0) ∙ table-at (c .before .before .args .k) _
+unfolding numOf
+returns c = rw (c .enum-told .given .1)
+
+returns-2 : tie.Need-returns-2
+unfolding numOf
+returns-2 c = rw (c .enum-told2 .given .1)
+
+returns-3 : tie.Need-returns-3
+unfolding numOf
+returns-3 c = rw (c .enum-told3 .given .1)
+
+returns-4 : tie.Need-returns-4
+unfolding numOf
+returns-4 c = rw (c .enum-told4 .given .1)
+
+returns-5 : tie.Need-returns-5
+unfolding numOf
+returns-5 c = rw (c .enum-told5 .given .1)
+
+returns-6 : tie.Need-returns-6
+unfolding numOf
+returns-6 c = rw (c .enum-told6 .given .1)
+
+returns-7 : tie.Need-returns-7
+unfolding numOf
+returns-7 c = rw (c .enum-told7 .given .1)
+
+returns-8 : tie.Need-returns-8
+unfolding numOf
+returns-8 c = rw (c .enum-told8 .given .1)
+
+returns-9 : tie.Need-returns-9
+unfolding numOf
+returns-9 c = rw (c .enum-told9 .given .1)
+
+returns-10 : tie.Need-returns-10
+unfolding numOf
+returns-10 c = rw (c .enum-told10 .given .1)
 
 pub layout-spec : {M : Type 1} → statement M
-layout-spec = tie.close (tie.spec number-requires mul-result array-copy-out-result returns)
+layout-spec =
+    tie.close
+    (tie.spec
+    enum-told
+    enum-told-2
+    enum-told-3
+    enum-told-4
+    enum-told-5
+    enum-told-6
+    enum-told-7
+    enum-told-8
+    enum-told-9
+    enum-told-10
+    returns
+    returns-2
+    returns-3
+    returns-4
+    returns-5
+    returns-6
+    returns-7
+    returns-8
+    returns-9
+    returns-10)
