@@ -1,4 +1,4 @@
--- The octets that the code makes, one by one; Words.antt says what they are for.
+-- What the code makes step by step, group by group and octet by octet (001, Annex A, Appendix 3, paragraphs 1 to 3); Words.antt says what it is for.
 use mathlib.Core.List.{List}
 use Prim.Native.Nat.{ℕ, _+_, _-_, _*_, _/_, _%_, _^_}
 use Rattle.bits.specs.Numbers.{numOf, written}
@@ -6,7 +6,7 @@ use Rattle.bits.specs.Octets.{bitAt}
 use Rattle.frame.specs.Frame.{columnOf}
 use Rattle.frame.specs.Words.{messageBit}
 
--- group g (1 to 7) of message k is this data group of the frame, and this octet of the image
+-- group g (1 to 7) of message k is this data group of the frame, and this octet of the image: octet 0 is the start group
 abbrev pub dataGroup : ℕ → ℕ → ℕ
 dataGroup k g = 7 * (k - 1) + g
 
