@@ -29,7 +29,7 @@ turned-low x = num-ext _ _ 7 (λ i h. low-bit x 7 (6 - i) (omega arith))
 turned-lt : (x : ℕ) → turnedOf x < 2 ^ 7
 turned-lt x = num-lt _ 7 (λ i h. mod-lt _ (lit< tt))
 
--- ---- what the table gives
+-- ---- what the table gives: t is what `turning` hands out
 
 module _ (t : List ℕ) (turning : t ≡ tab turnedOf 128) where
   table-at : (x : ℕ) → x < 128 → getD t x 0 ≡ turnedOf x
