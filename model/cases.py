@@ -1,9 +1,11 @@
 """The cases, in groups. Each group is a function that gives its cases; its first line of text is the group's note."""
 
+import itertools
+
 import link1
 import lines
 from values import (FIRST, LEGAL_PAIRS, LENT, N, P, Q, SECOND, T, Stream, changed, checks_kept, image, label_bits,
-                    message, turned, turned_in_message, word_image)
+                    message, turned, turned_in_both, turned_in_message, word_image)
 
 LENT16 = LENT[:16]
 PLAIN16 = bytes([0x5a]) * 16
@@ -34,8 +36,8 @@ def examples():
     track = message("S4", number=5203, quality=3)
     cases = [lines.verdict(T), lines.open_image(T), lines.verdict(N), lines.open_image(N), lines.verdict(P),
              lines.open_image(P), lines.verdict(Q), lines.open_image(Q),
-             ("verdict x00 xba*14 xff", "0 0"), ("open x00ba*14 xff", "0 0 S0 S0"),
-             ("open x00c480*13 xbb", "0 0 S4 number 0 quality 0 x 0 y 0 Blank")]
+             ("verdict x00 xba*14 xff", "0 0 0"), ("open x00ba*14 xff", "0 0 0 S0 S0"),
+             ("open x00c480*13 xbb", "0 0 0 S4 number 0 quality 0 x 0 y 0 Blank")]
     for octets in (P[:15] + b"\xba", P[:15] + b"\xb9", b"\x01" + P[1:], P[:15]):
         cases += [lines.verdict(octets), lines.open_image(octets)]
     cases += closes([(message("S0"), message("S0")), (message("Blank"), message("Blank")),
@@ -63,9 +65,12 @@ def names():
     cases += [lines.kind_of(given) for given in (FIRST["S4"], FIRST["S6"], SECOND["S3"], SECOND["S5"], FIRST["S9"])]
     cases += [lines.kind_of(message("S3", request=7, mode1=65535)), lines.kind_of(message("S8+", x=32767, y=-32768)),
               lines.kind_of(message("S9", area=255, site=255, number=255, drop=1, x=-32768, y=32767))]
-    cases += [lines.refusal_of(number) for number in (*link1.NUMBERS, 12, 13, 63, 64, 127, 128, 200, 254, 255)]
+    cases += [lines.refusal_of(number) for number in (*link1.NUMBERS, 16, 17, 63, 64, 127, 128, 200, 254, 255)]
     for place in (0, 1, 2, 3, 9, 128, 255):
-        cases += [lines.refusal_at(number, place) for number in (*link1.NUMBERS, 12, 128, 255)]
+        cases += [lines.refusal_at(number, place) for number in (*link1.NUMBERS, 16, 128, 255)]
+    for number in (*link1.NUMBERS, 16, 255):
+        cases += [lines.refusal_inside(number, place, bit) for place, bit in ((0, 0), (1, 7), (2, 49), (255, 255))]
+    cases += [lines.refusal_inside(13, 2, bit) for bit in (*range(49), 50, 63, 64, 127, 128, 200, 254, 255)]
     return cases
 
 
@@ -335,17 +340,20 @@ def digits_refused():
     first, digits = FIRST["S8+"], digits_of(*MODES)
     octets = turned_in_message(first, message("S3", emergency=1), 2, *digits)
     part = digits_of("mode2", "mode3a")
-    cases = refused((8, 2), [turned_in_message(first, given, 2, n, *some) for n in link1.SPARE["S3"]
-                             for given, some in ((message("S3"), digits), (message("S3", mode1=21), part))])
-    cases += refused((8, 2), [turned_in_message(message("S4+"), message("S3", request=code), 2, *some)
-                              for code in link1.NOT_USED["request"] for some in (digits, MODES["mode3a"])])
-    cases += refused((5, 0), [turned(octets, 121 + j) for j in range(1, 7)])
-    cases += refused((4, 0), [turned(octets, 73)]) + refused((3, 0), [turned(octets, 8)])
+    cases = []
+    for n in link1.SPARE["S3"]:
+        cases += refused((13, 2, n), [turned_in_message(first, given, 2, n, *some)
+                                      for given, some in ((message("S3"), digits), (message("S3", mode1=21), part))])
+    cases += refused((14, 2, 21), [turned_in_message(message("S4+"), message("S3", request=code), 2, *some)
+                                   for code in link1.NOT_USED["request"] for some in (digits, MODES["mode3a"])])
+    cases += refused((5, 0, 0), [turned(octets, 121 + j) for j in range(1, 7)])
+    cases += refused((4, 0, 0), [turned(octets, 73)]) + refused((3, 0, 0), [turned(octets, 8)])
     left = {**link1.message_bits(message("S3")), **dict.fromkeys(digits, 1)}
-    cases += refused((6, 1), [word_image(label_bits(37), left)]) + refused((6, 2), [word_image(left, label_bits(37))])
-    cases += refused((7, 0), [turned_in_message(message("S3"), message(kind), 1, *digits) for kind in link1.KINDS])
-    cases += refused((7, 0), [turned_in_message(message(kind), message("S3"), 2, *digits) for kind in link1.KINDS
-                              if kind not in ("S4+", "S8+")])
+    cases += refused((6, 1, 0), [word_image(label_bits(37), left)])
+    cases += refused((6, 2, 0), [word_image(left, label_bits(37))])
+    cases += refused((7, 0, 0), [turned_in_message(message("S3"), message(kind), 1, *digits) for kind in link1.KINDS])
+    cases += refused((7, 0, 0), [turned_in_message(message(kind), message("S3"), 2, *digits) for kind in link1.KINDS
+                                 if kind not in ("S4+", "S8+")])
     return cases
 
 
@@ -386,6 +394,158 @@ def spare_bits():
             images += [turned_in_message(base, base, which, n) for n in spare]
             images += [turned_in_message(base, base, which, n, m) for n in spare for m in spare if n < m]
     return opens(images)
+
+
+# 02 Item 4: what is wrong inside a message, of several troubles the one at the lowest bit.
+
+def choices_of(numbers, least):
+    """Every choice of so many of these bit numbers or more."""
+    return [chosen for length in range(least, len(numbers) + 1) for chosen in itertools.combinations(numbers, length)]
+
+
+def some_from(stream, numbers):
+    """One of these bit numbers, the lowest, and random-looking ones above it."""
+    lowest = stream.below(len(numbers))
+    return [n for at, n in enumerate(numbers) if at == lowest or at > lowest and stream.below(3) == 0]
+
+
+def broken_patterns():
+    """Blank and S.0 with two bits wrong, a whole group, random-looking ones and all, opened: the lowest is told."""
+    stream, cases, test = Stream(11), [], message("S0")
+    for first, second, which in ((test, test, 1), (test, test, 2), (FIRST["S8"], message("Blank"), 2)):
+        chosen = [(n, n + 1) for n in range(7, 49)]
+        chosen += [(n, 49) for n in range(7, 48, 3)] + [(7, n) for n in range(9, 49, 3)]
+        chosen += [range(7 * group + 1, 7 * group + 8) for group in range(1, 7)] + [range(7, 50)]
+        chosen += [some_from(stream, range(7, 50)) for _ in range(24)]
+        for numbers in chosen:
+            cases += refused((12, which, min(numbers)), [turned_in_message(first, second, which, *numbers)])
+    pattern, zeros = link1.message_bits(test), label_bits(link1.LABELS["S0"])
+    above_blank = {n: 0 if n <= 6 else pattern[n] for n in range(1, 50)}
+    cases += refused((12, 1, 9), [word_image(zeros, pattern), word_image(zeros, zeros)])
+    return cases + refused((12, 2, 9), [word_image(pattern, zeros),
+                                        word_image(link1.message_bits(FIRST["S6"]), above_blank)])
+
+
+def spare_beside_codes():
+    """Spare bits of S.3 beside a request that is not used, three and more of S.9, opened: the lowest bit is told."""
+    spare, requests, cases = link1.SPARE["S3"], link1.NOT_USED["request"], []
+    for number, chosen in enumerate(choices_of(spare, 1)):
+        result = (13, 2, chosen[0]) if chosen[0] < 21 else (14, 2, 21)
+        for code in requests if len(chosen) == 1 else [requests[number % 5]]:
+            given = changed(SECOND["S3"] if number % 2 == 0 else message("S3"), request=code)
+            cases += refused(result, [turned_in_message(FIRST["S8+"], given, 2, *chosen)])
+    for chosen in choices_of(link1.SPARE["S9"], 3):
+        for which in (1, 2):
+            cases += refused((13, which, chosen[0]),
+                             [turned_in_message(FIRST["S9"], SECOND["S9"], which, *chosen)])
+    return cases
+
+
+def wrong_values(kind):
+    """The fields that a call may hold wrong: for each a list of what is too wide, and one of codes not used if any."""
+    fields = {}
+    for word, first, last in link1.FIELDS[kind]:
+        lowest, highest = link1.field_range(word, first, last)
+        wide = [value for value in field_values(word, first, last) if value < lowest or value > highest]
+        if wide:
+            fields[word] = [wide, link1.NOT_USED[word]] if word in link1.NOT_USED else [wide]
+    return fields
+
+
+def wrong_in_two(kind):
+    """Messages with every two fields wrong, each too wide and each with a code that is not used."""
+    fields, given = wrong_values(kind), []
+    for one, two in itertools.combinations(fields, 2):
+        for ones, twos in itertools.product(fields[one], fields[two]):
+            turn = len(given)
+            given.append(message(kind, **{one: ones[turn % len(ones)], two: twos[turn % len(twos)]}))
+    return given
+
+
+def wrong_from_each_on(kind):
+    """Messages with all fields wrong from each on, three and more: all too wide, and others with codes not used."""
+    fields, given = wrong_values(kind), []
+    for at, way in itertools.product(range(len(fields) - 2), (0, -1)):
+        wrong = {word: values[way] for word, values in list(fields.items())[at:]}
+        given.append(message(kind, **{word: values[(at + way) % len(values)] for word, values in wrong.items()}))
+    return given
+
+
+def troubles_closed():
+    """Every two fields of a message wrong, and all from each on, closed: the lowest bit is told."""
+    cases = []
+    for kind, which, other in PLACES:
+        wrong = wrong_in_two(kind) + wrong_from_each_on(kind)
+        cases += closes([pair_of(given, which, other) for given in wrong], LENT16)
+    return cases
+
+
+def codes_too_wide():
+    """Numbers that are too wide and whose lowest bits are a code that is not used, closed: too wide is told."""
+    cases = []
+    for kind, which, other in PLACES:
+        for word, first, last in link1.FIELDS[kind]:
+            values = 2 ** (last - first + 1)
+            cases += closes([pair_of(message(kind, **{word: code + values * times}), which, other)
+                             for code in link1.NOT_USED.get(word, ()) for times in (1, 2, 14)], LENT16)
+    return cases
+
+
+def random_wrong(stream, kind):
+    """A message of random-looking fields, some of them wrong."""
+    given = stream.message(kind)
+    for word, ways in wrong_values(kind).items():
+        if stream.below(4) == 0:
+            values = ways[stream.below(len(ways))]
+            given = changed(given, **{word: values[stream.below(len(values))]})
+    return given
+
+
+def random_troubles():
+    """Random-looking fields beside spare bits and codes that are not used, opened; some of them wrong, closed."""
+    stream, images = Stream(12), []
+    for number in range(48):
+        given = stream.message("S3")
+        if number % 3 != 0:
+            given = changed(given, request=stream.below(8))
+        images.append(turned_in_message(stream.message(("S4+", "S8+")[number % 2]), given, 2,
+                                        *some_from(stream, link1.SPARE["S3"])))
+        images.append(turned_in_message(stream.message("S9"), stream.message("S9"), number % 2 + 1,
+                                        *some_from(stream, link1.SPARE["S9"])))
+    for number in range(12):
+        strobe = changed(stream.message("S6"), elevation=13 + number % 3)
+        images += [image(stream.message(("S4+", "S8+")[number % 2]), changed(stream.message("S5"), strength=1)),
+                   image(strobe, stream.message("S8")), image(stream.message("S4"), strobe)]
+    return opens(images) + closes([(random_wrong(stream, first), random_wrong(stream, second))
+                                   for first, second in LEGAL_PAIRS * 5 if first != "S0"], LENT16)
+
+
+def both_wrong_opened():
+    """Something wrong in each message, opened: the first message's is told, also where the second's bit is lower."""
+    test, blank, spare, elevations = message("S0"), message("Blank"), link1.SPARE["S9"], link1.NOT_USED["elevation"]
+    cases = []
+    for n in range(7, 50):
+        cases += refused((12, 1, n), [turned_in_both(test, [n], test, [56 - n])])
+    cases += refused((14, 1, 40), [turned_in_both(message("S6", elevation=elevations[n % 3]), [], blank, [n])
+                                   for n in range(7, 50)])
+    cases += refused((14, 1, 40), [image(message("S6", elevation=one), message("S6", elevation=two))
+                                   for one in elevations for two in elevations])
+    for n in spare:
+        cases += refused((13, 1, n), [turned_in_both(FIRST["S9"], [n], SECOND["S9"], [m]) for m in spare])
+    return cases
+
+
+def both_wrong_closed():
+    """A field wrong in each message, closed: the first message's is told, also where the second's bit is lower."""
+    pairs = []
+    for first, second in LEGAL_PAIRS:
+        ones = [(word, values) for word, ways in wrong_values(first).items() for values in ways]
+        twos = [(word, values) for word, ways in wrong_values(second).items() for values in ways]
+        chosen = [(one, twos[0]) for one in ones] + [(ones[-1], two) for two in twos[1:]] if ones and twos else []
+        for number, ((one, one_values), (two, two_values)) in enumerate(chosen):
+            pairs.append((message(first, **{one: one_values[number % len(one_values)]}),
+                          message(second, **{two: two_values[number % len(two_values)]})))
+    return closes(pairs, LENT16)
 
 
 # 01 'From levels to a frame', the good frame.
@@ -453,13 +613,13 @@ BAD_CORNERS = ({"area": 4}, {"site": 64}, {"number": 4}, {"x": 4096}, {"y": -409
 
 
 def faulty_image(faults):
-    """An image with these faults of '2 3 4 5 6a 6b 7 8a 8b', a and b for the first message and the second."""
+    """An image with these of the faults 2 3 4 5 6a 6b 7 'in a' 'in b'; a is the first message and b the second."""
     first, second = message("S6", age=1), message("S6", age=2)
     if "7" in faults:
-        first, second = (message("S3"), second) if "8a" in faults or "6b" in faults else (first, message("S5"))
+        first, second = (message("S3"), second) if "in a" in faults or "6b" in faults else (first, message("S5"))
     faulty = {"S6": (40, 42, 43), "S3": (7,), "S5": (16,)}
     bits = {1: link1.message_bits(first), 2: link1.message_bits(second)}
-    for which, fault, kind in ((1, "8a", first[0]), (2, "8b", second[0])):
+    for which, fault, kind in ((1, "in a", first[0]), (2, "in b", second[0])):
         if fault in faults:
             for n in faulty[kind]:
                 bits[which][n] = 1
@@ -474,7 +634,7 @@ def faulty_image(faults):
 
 def order_of_opening():
     """Opening: each fault, every two of them, all from each on, told as the first; S.9 with spare bits by each kind."""
-    faults = ("2", "3", "4", "5", "6a", "6b", "7", "8a", "8b")
+    faults = ("2", "3", "4", "5", "6a", "6b", "7", "in a", "in b")
     chosen = [[fault] for fault in faults] + [[one, two] for at, one in enumerate(faults) for two in faults[at + 1:]]
     chosen += [list(faults[at:]) for at in range(len(faults) - 2)] + [[]]
     cases = []
@@ -871,14 +1031,29 @@ def shift_contents():
     cases += [lines.shift(message("S4", x=4096), [-750], []), lines.shift(message("S8", y=-4097), [], [750]),
               lines.shift(message("S9", x=4096), [-750], []), lines.shift(message("S9", y=-4097), [], [750])]
     cases += [lines.shift(changed(FIRST["S9"], **bad), [6144001] * 9, [6144001] * 9) for bad in BAD_CORNERS]
-    cases += [lines.shift(given, [750], []) for given in (message("S3", request=1), message("S5", strength=1),
-                                                          message("S6", elevation=15))]
+    return cases
+
+
+def shift_troubles():
+    """Shifting what is wrong inside: two fields and more, also beside bad lists; a message without a position too."""
+    bad, cases = [6144001] * 9, []
+    for kind in link1.WITH_POSITION:
+        cases += [lines.shift(given, [0], [1, -1]) for given in wrong_in_two(kind)]
+        cases += [lines.shift(given, bad, bad) for given in wrong_from_each_on(kind)]
+    for kind in link1.TRACKS:
+        cases += [lines.shift(changed(FIRST[kind], **{word: wide[0]}), bad, bad)
+                  for word, [wide] in wrong_values(kind).items()]
+    for kind in ("S3", "S5", "S6"):
+        for word, ways in wrong_values(kind).items():
+            cases += [lines.shift(message(kind, **{word: value}), [750], [])
+                      for values in ways for value in sorted({values[0], values[-1]})]
+        cases += [lines.shift(given, bad, bad) for given in wrong_from_each_on(kind)[:2]]
     return cases
 
 
 def order_of_shifting():
     """Shifting: every two faults, and all from each on, told as the first, and the message stays."""
-    faults = ("11", "8", "2 X", "2 Y", "9 X offset", "9 Y offset", "9 X result", "9 Y result")
+    faults = ("11", "inside", "2 X", "2 Y", "9 X offset", "9 Y offset", "9 X result", "9 Y result")
     chosen = [[fault] for fault in faults] + [[one, two] for at, one in enumerate(faults) for two in faults[at + 1:]]
     chosen += [faults[at:] for at in range(len(faults) - 2)]
     cases = []
@@ -891,10 +1066,10 @@ def order_of_shifting():
             if "2 %s" % axis in some:
                 offsets[axis] = offsets[axis] + [0] * (9 - len(offsets[axis]))
         given = [track(number, x=4095, y=4095), corner(number, x=4095, y=4095)]
-        if "8" in some:
+        if "inside" in some:
             given = [changed(given[0], quality=5), changed(given[1], site=64)]
         if "11" in some:
-            given = [message("S5", strength=1) if "8" in some else message("S6", age=3)]
+            given = [message("S5", strength=1) if "inside" in some else message("S6", age=3)]
         cases += [lines.shift(one, offsets["X"], offsets["Y"]) for one in given]
     return cases
 
@@ -961,8 +1136,9 @@ def other_writings():
     cases += [("hear :0011 =01 :9", lines.heard(link1.FRESH, [0, 0, 1, 1, 48, 49, 9])),
               ("hear :01*3 x00*2", lines.heard(link1.FRESH, [0, 1, 1, 1, 0, 0])),
               ("hear", lines.heard(link1.FRESH, [])), ("hear x", lines.heard(link1.FRESH, [])),
-              ("close S0 S0", "2 0 x"), ("open", "2 0"), ("verdict", "2 0"), ("send 0 0", "2 0 :"),
-              ("track_text 7", "2 0 x"), ("track_number", "2 0"), ("search 0", "10 0"), ("search 1099511627776", "9 0")]
+              ("close S0 S0", "2 0 0 x"), ("open", "2 0 0"), ("verdict", "2 0 0"), ("send 0 0", "2 0 0 :"),
+              ("track_text 7", "2 0 0 x"), ("track_number", "2 0 0"), ("search 0", "10 0 0"),
+              ("search 1099511627776", "9 0 0")]
     cases += [("", ""), ("", "")]
     cases += [(text, text) for text in ("#", "##", "#note", "# two  spaces and one at the end ", "# verdict x00",
                                         "#\x00\x01\t\r\x7f\x80\xc3\xa9\xff odd octets")]
@@ -985,6 +1161,8 @@ def odd_numbers():
     texts += ["refusal_of " + word for word in words + ["-1", "256"]]
     texts += ["refusal_at %s 1" % word for word in words[:4] + ["-1", "256"]]
     texts += ["refusal_at 1 %s" % word for word in words[:4] + ["-1", "256"]]
+    for parts in ("%s 1 1", "1 %s 1", "1 1 %s"):
+        texts += ["refusal_inside " + parts % word for word in words[:4] + ["-1", "256"]]
     texts += ["shift S4 number 1 quality 1 x 1 y 1 by %s and" % word for word in words + ["2147483648", "-2147483649"]]
     texts += ["shift S4 number 1 quality 1 x 1 y 1 by and %s" % word for word in words + ["2147483648", "-2147483649"]]
     texts += ["hear :0*" + word for word in words + ["0", "-1", "65665", ""]]
@@ -1053,7 +1231,8 @@ def odd_lines():
              "verdict :" + "0" * 8184, "x" * 8193, "numbers" + " " * 8186, "label S9 S9", "label S.9", "label s9",
              "label 5", "close S0 S9+ x00*16", "close S9 S9 x00*16", "close " + s9, "close %s x00*16" % s9,
              "close %s S9 x00*16" % s9, "close S9 %s x00*16" % s9, "shift S9 by and", "shift " + s9,
-             "shift %s by 1" % s9, "shift %s and" % s9]
+             "shift %s by 1" % s9, "shift %s and" % s9, "refusal_inside", "refusal_inside 1", "refusal_inside 1 2",
+             "refusal_inside 1 2 3 4", "refusal_inside 1 2 3 ", "refusal_inside 1 2 x03", "refusal_of 1 2 3"]
     cases = []
     for number, text in enumerate(texts):
         cases.append(lines.not_understood(text))
@@ -1070,11 +1249,13 @@ def last_line():
 GROUPS = (examples, names, pairs_closed, pairs_opened, labels_opened, whole_messages, random_messages, fields_whole,
           field_bits_closed, bits_opened, bits_missing, field_ranges, codes, small_numbers, signed_patterns,
           test_message, blank_message, modes_opened, modes_closed, digits_left, digits_elsewhere, spare_bits,
-          frame_bits, check_bits, octets_judged, lengths, order_of_opening, order_of_closing, order_of_sending,
-          sending, frames_heard, noise_heard, false_locks, refused_levels, frames_in_turn, faulty_runs, turned_runs,
-          cut_runs, resumed, aligned_captures, two_frame_captures, damaged_captures, plain_captures, long_captures,
-          shifts_around_steps, shifts_by_lists, shift_limits, shift_contents, order_of_shifting, altitudes,
-          text_characters, texts, other_writings, odd_numbers, odd_messages, odd_lines, last_line)
+          broken_patterns, spare_beside_codes, troubles_closed, codes_too_wide, random_troubles, both_wrong_opened,
+          both_wrong_closed, frame_bits, check_bits, octets_judged, lengths, order_of_opening, order_of_closing,
+          order_of_sending, sending, frames_heard, noise_heard, false_locks, refused_levels, frames_in_turn,
+          faulty_runs, turned_runs, cut_runs, resumed, aligned_captures, two_frame_captures, damaged_captures,
+          plain_captures, long_captures, shifts_around_steps, shifts_by_lists, shift_limits, shift_contents,
+          shift_troubles, order_of_shifting, altitudes, text_characters, texts, other_writings, odd_numbers,
+          odd_messages, odd_lines, last_line)
 
 
 def all_cases():

@@ -67,8 +67,8 @@ def line(*parts):
     return " ".join(str(part) for part in parts)
 
 
-def answer(number_and_place, *parts):
-    return line(*number_and_place, *parts)
+def answer(result, *parts):
+    return line(*result, *parts)
 
 
 def verdict(octets, written=None):
@@ -154,11 +154,15 @@ def track_text(number, buffer):
 
 
 def refusal_of(number):
-    return line("refusal_of", number), line(number, 0)
+    return line("refusal_of", number), line(number, 0, 0)
 
 
 def refusal_at(number, place):
-    return line("refusal_at", number, place), line(number, place)
+    return line("refusal_at", number, place), line(number, place, 0)
+
+
+def refusal_inside(number, place, bit):
+    return line("refusal_inside", number, place, bit), line(number, place, bit)
 
 
 def numbers():

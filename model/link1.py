@@ -2,13 +2,13 @@
 
 The bits of a message are a dict from bit number 1 to 49, those of a frame a list from 1 to 128 (entry 0 is not used).
 A message is its kind and a dict from each field's word to its number; an absent mode is None.
-Every answer begins with the number and the place, (0, 0) for success.
+Every answer begins with the number, the place and the bit (02 Item 4), (0, 0, 0) for success.
 """
 
-GOOD = (0, 0)
+GOOD = (0, 0, 0)
 
-# 01 'Numbers a caller may get back', success first.
-NUMBERS = (0, 1, 2, 3, 4, 5, 6, 7, 8, 9, 10, 11)
+# 01 'Numbers a caller may get back', success first; 02 Item 4 strikes 8 and adds 12 to 15.
+NUMBERS = (0, 1, 2, 3, 4, 5, 6, 7, 9, 10, 11, 12, 13, 14, 15)
 
 # 01 'On board and left ashore'; 02 Item 1: S.9 joins the kinds.
 KINDS = ("Blank", "S0", "S3", "S4", "S4+", "S5", "S6", "S8", "S8+", "S9")
@@ -70,7 +70,7 @@ def pair_is_legal(first, second):
 def kind_named(label):
     """01 'On board': other labels are refused 6, S.9+ (37) among them."""
     named = [kind for kind in KINDS if LABELS[kind] == label]
-    return (GOOD, named[0]) if named else ((6, 0), None)
+    return (GOOD, named[0]) if named else ((6, 0, 0), None)
 
 # 01 'Messages': in a field the lowest bit number weighs least; 001 Annex A Appendix 4 paragraph 17.
 def read_bits(bits, first, last):
@@ -98,17 +98,29 @@ def field_range(word, first, last):
         return -values // 2, values // 2 - 1
     return 0, values - 1
 
-def content_is_good(message):
-    """01 'Orders of checks', close: a number too wide for its field is content; so is a code that is not used."""
+# 02 Item 4, what is wrong inside a message: 12 fixed pattern, 13 spare bit, 14 code not used, 15 number too wide.
+INSIDE = (12, 13, 14, 15)
+
+def field_troubles(message):
+    """02 Item 4: the lowest bit of each field that is wrong, with the cause; 001 Annex A Appendix 4 paragraph 14."""
     kind, fields = message
+    troubles = []
     for word, first, last in FIELDS[kind]:
-        value = fields[word]
-        if value is None:
+        if fields[word] is None:
             continue
         lowest, highest = field_range(word, first, last)
-        if value < lowest or value > highest or value in NOT_USED.get(word, ()):
-            return False
-    return True
+        if fields[word] < lowest or fields[word] > highest:
+            troubles.append((first, 15))
+        elif fields[word] in NOT_USED.get(word, ()):
+            troubles.append((first, 14))
+    return troubles
+
+def told(troubles, which):
+    """02 Item 4: of several troubles the one at the lowest bit is told; no two are at one bit."""
+    if not troubles:
+        return GOOD
+    bit, cause = min(troubles)
+    return cause, which, bit
 
 def message_bits(message):
     """01 'Messages'; 001 Annex C Appendix 3. 02 Item 2: an absent mode's code bits are written as zeros."""
@@ -126,17 +138,22 @@ def message_bits(message):
             bits[PRESENCE[word]] = 1
     return bits
 
-def bits_are_good(kind, bits):
-    """01 'Messages', what the bits outside the fields must be; 001 Annex A Appendix 4 paragraphs 3, 4, 14.
+def pattern_bit(kind, n):
+    """01 'Messages', Blank and S.0: each group holds the label's six bits and then a zero.
+
+    001 Annex A Appendix 4 paragraphs 3, 4; Annex C Appendix 3 paragraphs 1.2, 2.2, 'Fixed Data Pattern'.
+    """
+    place = (n - 1) % 7 + 1
+    return 0 if place == 7 else LABELS[kind] // 2 ** (place - 1) % 2
+
+def bit_troubles(kind, bits):
+    """02 Item 4: each bit outside the fields that is wrong, with the cause; 001 Annex A Appendix 4 paragraph 13.
 
     02 Item 2: nothing is asked of an absent mode's code bits.
     """
-    if kind == "Blank":
-        return all(bits[n] == 0 for n in range(1, 50))
-    if kind == "S0":
-        return all(read_bits(bits, 7 * group + 1, 7 * group + 6) == 46 and bits[7 * group + 7] == 0
-                   for group in range(7))
-    return all(bits[n] == 0 for n in SPARE.get(kind, ()))
+    if kind in ("Blank", "S0"):
+        return [(n, 12) for n in range(7, 50) if bits[n] != pattern_bit(kind, n)]
+    return [(n, 13) for n in SPARE.get(kind, ()) if bits[n] != 0]
 
 def read_message(kind, bits):
     """01 'Messages'. 02 Item 2; 001 Annex C Appendix 3 paragraph 5.3: a code is read only where the mode is present."""
@@ -174,11 +191,11 @@ def frame_of(first_bits, second_bits):
 def frame_verdict(frame):
     """01 'Orders of checks': 3, 4, 5."""
     if any(frame[n] == 1 for n in range(1, 9)):
-        return 3, 0
+        return 3, 0, 0
     if any(frame[n] == 0 for n in MARKS):
-        return 4, 0
+        return 4, 0, 0
     if any(check_count(frame, j) % 2 == 0 for j in range(1, 7)):
-        return 5, 0
+        return 5, 0, 0
     return GOOD
 
 # 01 'From levels to a frame': bit 1 is in the most significant place of the first octet.
@@ -197,11 +214,11 @@ def image_of(frame):
 def verdict(image):
     """01 'Orders of checks', the frame alone: 2, 3, 4, 5."""
     if len(image) != 16:
-        return 2, 0
+        return 2, 0, 0
     return frame_verdict(image_frame(image))
 
 def open_image(image):
-    """01 'Orders of checks': 2, 3, 4, 5, 6 first, 6 second, 7, 8 first, 8 second."""
+    """01 'Orders of checks', 02 Item 4: 2, 3, 4, 5, 6 first, 6 second, 7, 12 to 14 first, 12 to 14 second."""
     answer = verdict(image)
     if answer != GOOD:
         return answer, None
@@ -211,25 +228,26 @@ def open_image(image):
     for which in (1, 2):
         answer, kinds[which] = kind_named(read_bits(bits[which], 1, 6))
         if answer != GOOD:
-            return (6, which), None
+            return (6, which, 0), None
     if not pair_is_legal(kinds[1], kinds[2]):
-        return (7, 0), None
+        return (7, 0, 0), None
     messages = {which: read_message(kinds[which], bits[which]) for which in (1, 2)}
     for which in (1, 2):
-        if not bits_are_good(kinds[which], bits[which]) or not content_is_good(messages[which]):
-            return (8, which), None
+        answer = told(bit_troubles(kinds[which], bits[which]) + field_troubles(messages[which]), which)
+        if answer != GOOD:
+            return answer, None
     return GOOD, (messages[1], messages[2])
 
 def close_pair(first, second, buffer):
-    """01 'Orders of checks': 2, 7, 8 first, 8 second."""
+    """01 'Orders of checks', 02 Item 4: 2, 7, 14 or 15 first, 14 or 15 second."""
     if len(buffer) != 16:
-        return (2, 0), buffer
+        return (2, 0, 0), buffer
     if not pair_is_legal(first[0], second[0]):
-        return (7, 0), buffer
-    if not content_is_good(first):
-        return (8, 1), buffer
-    if not content_is_good(second):
-        return (8, 2), buffer
+        return (7, 0, 0), buffer
+    for which, message in ((1, first), (2, second)):
+        answer = told(field_troubles(message), which)
+        if answer != GOOD:
+            return answer, buffer
     return GOOD, image_of(frame_of(message_bits(first), message_bits(second)))
 
 # 02 Item 2, by message bit numbers: the presence bit of each mode of S.3, the first bit and the last of its code;
@@ -256,9 +274,9 @@ def zeroed(image):
 def send(previous, image, buffer):
     """01 'Orders of checks': 2 image, 2 buffer, 1, 3, 4, 5; 001 Annex A Appendix 3 paragraph 4: a one is a change."""
     if len(image) != 16 or len(buffer) != 128:
-        return (2, 0), buffer
+        return (2, 0, 0), buffer
     if previous not in (0, 1):
-        return (1, 0), buffer
+        return (1, 0, 0), buffer
     answer = verdict(image)
     if answer != GOOD:
         return answer, buffer
@@ -272,10 +290,10 @@ def send(previous, image, buffer):
 FRESH = (0, 0, (None,) + (1,) * 128)
 
 def hear(state, level):
-    """The state comes back with the answer: number and place, 1 if a frame is handed over, the image."""
+    """The state comes back with the answer: number, place and bit, 1 if a frame is handed over, the image."""
     started, last, window = state
     if level not in (0, 1):
-        return state, ((1, 0), 0, bytes(16))
+        return state, ((1, 0, 0), 0, bytes(16))
     if started == 1:
         window = (None,) + window[2:] + (1 if level != last else 0,)
     state = (1, level, window)
@@ -286,14 +304,14 @@ def hear(state, level):
 def search(capture, start):
     """01 'Orders of checks': 2, 9, 10; the first bit of a capture has position 0."""
     if len(capture) > 65536:
-        return (2, 0), None
+        return (2, 0, 0), None
     if start > 8 * len(capture):
-        return (9, 0), None
+        return (9, 0, 0), None
     bits = octet_bits(capture)
     for position in range(start, len(bits) - 127):
         if frame_verdict([None] + bits[position:position + 128]) == GOOD:
             return GOOD, position
-    return (10, 0), None
+    return (10, 0, 0), None
 
 # 01 'The shift', of a track's position; 02 Item 1: the corner is shifted as a track is, 11 is not given for it.
 TRACKS = ("S4", "S4+", "S8", "S8+")
@@ -305,31 +323,32 @@ def nearest_step(feet):
     return steps if feet >= 0 else -steps
 
 def shift(message, x_offsets, y_offsets):
-    """01 'Orders of checks': 11, 8, 2 X, 2 Y, 9 on X offsets, 9 on Y offsets, 9 on X result, 9 on Y result."""
+    """01 'Orders of checks', 02 Item 4: 11, 15, 2 X, 2 Y, 9 X offsets, 9 Y offsets, 9 X result, 9 Y result."""
     kind, fields = message
     if kind not in WITH_POSITION:
-        return (11, 0), message
-    if not content_is_good(message):
-        return (8, 1), message
+        return (11, 0, 0), message
+    answer = told(field_troubles(message), 1)
+    if answer != GOOD:
+        return answer, message
     lists = ((1, x_offsets), (2, y_offsets))
     for axis, offsets in lists:
         if len(offsets) > 8:
-            return (2, axis), message
+            return (2, axis, 0), message
     for axis, offsets in lists:
         if any(offset < -6144000 or offset > 6144000 for offset in offsets):
-            return (9, axis), message
+            return (9, axis, 0), message
     x = nearest_step(750 * fields["x"] + sum(x_offsets))
     y = nearest_step(750 * fields["y"] + sum(y_offsets))
     for axis, steps in ((1, x), (2, y)):
         if steps < -4096 or steps > 4095:
-            return (9, axis), message
+            return (9, axis, 0), message
     return GOOD, (kind, dict(fields, x=x, y=y))
 
 def altitude(feet):
     """01 'Messages', altitude from feet; 001 Annex C Appendix 3 paragraph 7.2. No half falls on whole feet."""
     steps = 1 if feet <= 375 else (2 * feet + 375) // 750
     if steps > 511:
-        return (9, 0), None
+        return (9, 0, 0), None
     return GOOD, steps
 
 # 01 'Messages', track number text; 001 Annex A Appendix 4 paragraph 22, Annex C Appendix 3 paragraph 6.2.
@@ -340,20 +359,20 @@ TEXT_PLACES = ((LETTERS, 19, 21), (LETTERS, 16, 18), (DIGITS, 13, 15), (DIGITS, 
 def track_number(text):
     """01 'Orders of checks': 2, then 9."""
     if len(text) != 5:
-        return (2, 0), None
+        return (2, 0, 0), None
     bits = {}
     for octet, (characters, first, last) in zip(text, TEXT_PLACES):
         if octet not in characters:
-            return (9, 0), None
+            return (9, 0, 0), None
         write_bits(bits, first, last, characters.index(octet))
     return GOOD, read_bits(bits, 7, 21)
 
 def track_text(number, buffer):
     """01 'Orders of checks': 2, then 9."""
     if len(buffer) != 5:
-        return (2, 0), buffer
+        return (2, 0, 0), buffer
     if number > 32767:
-        return (9, 0), buffer
+        return (9, 0, 0), buffer
     bits = {}
     write_bits(bits, 7, 21, number)
     return GOOD, bytes(characters[read_bits(bits, first, last)] for characters, first, last in TEXT_PLACES)

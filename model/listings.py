@@ -3,7 +3,7 @@
 import link1
 from cases import MODES, PLACES, digits_of, faulty_image, pair_of
 from values import (FIRST, LEGAL_PAIRS, N, P, Q, SECOND, T, Stream, changed, checks_kept, image, label_bits, message,
-                    turned, turned_in_message, word_image)
+                    turned, turned_in_both, turned_in_message, word_image)
 
 
 def listing(log):
@@ -12,9 +12,11 @@ def listing(log):
     images = len(log) // 16
     listed = ["LINK1"]
     for n in range(1, images + 1):
-        (number, place), pair = link1.open_image(log[16 * (n - 1):16 * n])
+        (number, place, bit), pair = link1.open_image(log[16 * (n - 1):16 * n])
         if number == 0:
             listed.append("%d 0 %d %d" % (n, link1.LABELS[pair[0][0]], link1.LABELS[pair[1][0]]))
+        elif number in link1.INSIDE:  # 02 Item 4: the bit is a fourth number for these refusals only
+            listed.append("%d %d %d %d" % (n, number, place, bit))
         else:
             listed.append("%d %d %d" % (n, number, place))
     listed.append("END %d %d" % (images, len(log) - 16 * images))
@@ -52,6 +54,21 @@ def pairs():
     return [image(FIRST[first], SECOND[second]) for first, second in LEGAL_PAIRS]
 
 
+def several_troubles():
+    """02 Item 4: several wrong bits, a spare bit beside a code not used, both messages: the first one's lowest bit."""
+    test, blank = message("S0"), message("Blank")
+    chosen = ((7, 8), (14, 49), (30, 15), (9, 21, 42), (48, 49))
+    images = [turned_in_message(test, test, which, *numbers) for which in (1, 2) for numbers in chosen]
+    images += [turned_in_message(FIRST["S6"], blank, 2, *numbers) for numbers in chosen]
+    images += [turned_in_message(FIRST["S4+"], changed(SECOND["S3"], request=code), 2, n)
+               for code in link1.NOT_USED["request"] for n in link1.SPARE["S3"]]
+    images += [turned_in_message(FIRST["S9"], SECOND["S9"], which, *numbers) for which in (1, 2)
+               for numbers in ((9, 10), (10, 20), (23, 21), (20, 22, 23))]
+    images += [turned_in_both(test, [n], test, [56 - n]) for n in (7, 20, 40, 49)]
+    images += [turned_in_both(message("S6", elevation=14), [], blank, [n]) for n in (7, 39, 41)]
+    return images + [turned_in_both(FIRST["S9"], [n], SECOND["S9"], [m]) for n, m in ((9, 23), (23, 9), (20, 20))]
+
+
 def refusals():
     both, blank = (message("S0"), message("S0")), (FIRST["S4"], message("Blank"))
     good = (FIRST["S4"], SECOND["S6"])
@@ -71,8 +88,9 @@ def refusals():
     for code in link1.NOT_USED["elevation"]:
         images += [image(message("S6", elevation=code), message("S4")),
                    image(message("S8"), message("S6", elevation=code))]
-    faults = ("3", "4", "5", "6a", "6b", "7", "8a", "8b")
-    return images + [faulty_image([one, two]) for at, one in enumerate(faults) for two in faults[at + 1:]]
+    faults = ("3", "4", "5", "6a", "6b", "7", "in a", "in b")
+    images += [faulty_image([one, two]) for at, one in enumerate(faults) for two in faults[at + 1:]]
+    return images + several_troubles()
 
 
 def damaged():
@@ -104,7 +122,7 @@ def sixteen():
     good = [image(FIRST[first], SECOND[second]) for first, second in
             (("S0", "S0"), ("S4", "Blank"), ("S4", "S6"), ("S4+", "S3"), ("S6", "S8"), ("S8", "S4"), ("S8+", "S5"),
              ("S4+", "S5"))]
-    return good + [faulty_image([fault]) for fault in ("3", "4", "5", "6a", "6b", "7", "8a", "8b")]
+    return good + [faulty_image([fault]) for fault in ("3", "4", "5", "6a", "6b", "7", "in a", "in b")]
 
 
 def logs():

@@ -62,12 +62,22 @@ def word_image(first_bits, second_bits):
     return link1.image_of(link1.frame_of(first_bits, second_bits))
 
 
+def turned_bits(given, *numbers):
+    """The bits of a message with some of them turned."""
+    bits = link1.message_bits(given)
+    for n in numbers:
+        bits[n] = 1 - bits[n]
+    return bits
+
+
+def turned_in_both(first, first_numbers, second, second_numbers):
+    """The image of two messages with bits of each turned and the check bits right."""
+    return word_image(turned_bits(first, *first_numbers), turned_bits(second, *second_numbers))
+
+
 def turned_in_message(first, second, which, *numbers):
     """The image of two messages with bits of one of them turned and the check bits right."""
-    bits = {1: link1.message_bits(first), 2: link1.message_bits(second)}
-    for n in numbers:
-        bits[which][n] = 1 - bits[which][n]
-    return word_image(bits[1], bits[2])
+    return turned_in_both(first, numbers if which == 1 else (), second, numbers if which == 2 else ())
 
 
 def turned(octets, *numbers):

@@ -1,17 +1,19 @@
 -- A layout is data: a list of fields, the first at the lowest bits of a word. Split and join go by any layout.
-use mathlib.Core.Bool.{Bool, true, false, not}
+use mathlib.Core.Bool.{Bool, true, false}
 use mathlib.Core.List.{List, [], _∷_}
-use Prim.Native.Nat.{ℕ, _+_, _*_, _/_, _^_}
+use Prim.Native.Nat.{ℕ, _+_, _*_, _^_}
 use lib.Dec.{eqb, ltb}
 use lib.IntN.{ℤ}
 use lib.Signed.{mag}
-use Rattle.bits.specs.Tests.{pick, both}
+use Rattle.bits.specs.Tests.{pick}
 use Rattle.bits.specs.Numbers.{fieldOf}
 use Rattle.bits.specs.Twos.{signedOf, unsignedOf}
 
 pub data Field : Type 0 where
-  -- this many bits that always are this number; spare bits are `fixed k 0`
-  fixed : ℕ → ℕ → Field
+  -- this many bits that always are this number
+  pattern : ℕ → ℕ → Field
+  -- this many bits that have no use, and are zero
+  spare : ℕ → Field
   -- any number of this many bits
   number : ℕ → Field
   -- a number of this many bits that is none of these codes
@@ -22,7 +24,8 @@ pub data Field : Type 0 where
   signed : ℕ → Field
 
 abbrev pub widthOf : Field → ℕ
-widthOf (fixed k c) = k
+widthOf (pattern k x) = k
+widthOf (spare k) = k
 widthOf (number k) = k
 widthOf (code k unused) = k
 widthOf flag = 1
@@ -30,7 +33,8 @@ widthOf (signed k) = k + 1
 
 -- what stands in a field, and in each field of a layout
 abbrev pub Value : Field → Type 0
-Value (fixed k c) = Unit {0}
+Value (pattern k x) = Unit {0}
+Value (spare k) = Unit {0}
 Value (number k) = ℕ
 Value (code k unused) = ℕ
 Value flag = Bool
@@ -44,14 +48,10 @@ abbrev pub bit : Bool → ℕ
 bit true = 1
 bit false = 0
 
--- n is none of the codes
-abbrev pub noneOf : List ℕ → ℕ → Bool
-noneOf [] n = true
-noneOf (x ∷ xs) n = both (not (eqb x n)) (noneOf xs n)
-
 -- the value of a field's bits
 abbrev pub readAs : (f : Field) → ℕ → Value f
-readAs (fixed k c) n = tt
+readAs (pattern k x) n = tt
+readAs (spare k) n = tt
 readAs (number k) n = n
 readAs (code k unused) n = n
 readAs flag n = eqb n 1
@@ -59,29 +59,12 @@ readAs (signed k) n = signedOf (2 ^ k) n
 
 -- the bits of a value; of a signed number out of range, a number that is too wide
 abbrev pub writeAs : (f : Field) → Value f → ℕ
-writeAs (fixed k c) v = c
+writeAs (pattern k x) v = x
+writeAs (spare k) v = 0
 writeAs (number k) v = v
 writeAs (code k unused) v = v
 writeAs flag v = bit v
 writeAs (signed k) v = pick (ltb (mag v) (2 ^ k)) (unsignedOf (2 ^ k) v) (2 ^ (k + 1))
-
--- the bits n, which are below 2 ^ widthOf f, may stand in the field
-abbrev pub allows : Field → ℕ → Bool
-allows (fixed k c) n = eqb n c
-allows (number k) n = true
-allows (code k unused) n = noneOf unused n
-allows flag n = true
-allows (signed k) n = true
-
--- the bits of a word from weight 2 ^ at on are as the layout has them, with none above
-abbrev pub allowed : ℕ → List Field → ℕ → Bool
-allowed at [] word = eqb (word / 2 ^ at) 0
-allowed at (f ∷ fs) word = both (allows f (fieldOf word at (widthOf f))) (allowed (at + widthOf f) fs word)
-
--- the values fit their fields
-abbrev pub fits : (fs : List Field) → Values fs → Bool
-fits [] vs = true
-fits (f ∷ fs) vs = both (both (ltb (writeAs f (vs .0)) (2 ^ widthOf f)) (allows f (writeAs f (vs .0)))) (fits fs (vs .1))
 
 abbrev pub split : ℕ → (fs : List Field) → ℕ → Values fs
 split at [] word = tt

@@ -1,4 +1,4 @@
--- The kinds' tables are lawful: as long as they say, 43 bits wide, with few codes; a row by its number. Assumes nothing.
+-- The kinds' tables are lawful: as long as they say, 43 bits wide, with sound fields; a row by its number. Assumes nothing.
 use mathlib.Core.Path.{_≡_, refl, sym, ap, ap₂, _∙_}
 use mathlib.Core.Bool.{Bool, true}
 use mathlib.Core.List.{List, [], _∷_, map}
@@ -17,7 +17,7 @@ use Rattle.kind.specs.declared.Kind.{Kind}
 use Rattle.kind.specs.declared.Table.{Table}
 use Rattle.kind.specs.declared.Kind.the-variants.{Blank, S0, S3, S4, S4Plus, S5, S6, S8, S8Plus, S9}
 use Rattle.bits.proofs.TestLaws.{both-true, to-T}
-use Rattle.bits.proofs.RuleLaws.{allFew}
+use Rattle.bits.proofs.LayoutLaws.{areSound}
 
 -- what is behind the last field is cut off again
 pub cut : (n : ℕ) (xs : List ℕ) → length xs ≤ n → take (length xs) (padded n xs) ≡ xs
@@ -61,26 +61,26 @@ each f g e k = sym (row-at f k (g k)) ∙ ap (λ (rows : List _). getD rows (num
 abbrev lawful : Kind → Bool
 lawful k =
     both (ltb (labelOf k) 64)
-    (both (leb (length (layoutOf k)) 13) (both (eqb (total (widthsOf (layoutOf k))) 43) (allFew (layoutOf k))))
+    (both (leb (length (layoutOf k)) 12) (both (eqb (total (widthsOf (layoutOf k))) 43) (areSound (layoutOf k))))
 
 laid : (k : Kind) → lawful k ≡ true
 laid = each lawful (λ k. true) refl
 
 module _ (k : Kind) where
-  parts : (ltb (labelOf k) 64 ≡ true) × (leb (length (layoutOf k)) 13 ≡ true) × (eqb (total (widthsOf (layoutOf k))) 43 ≡ true) × (allFew (layoutOf k) ≡ true)
+  parts : (ltb (labelOf k) 64 ≡ true) × (leb (length (layoutOf k)) 12 ≡ true) × (eqb (total (widthsOf (layoutOf k))) 43 ≡ true) × (areSound (layoutOf k) ≡ true)
   parts = let p = both-true (laid k) in let q = both-true (p .1) in let r = both-true (q .1) in (p .0, q .0, r .0, r .1)
 
   pub label-lt : labelOf k < 64
   label-lt = ltb-true _ _ (parts .0)
 
-  pub short : length (layoutOf k) ≤ 13
+  pub short : length (layoutOf k) ≤ 12
   short = leb-true _ _ (parts .1)
 
   pub wide : total (widthsOf (layoutOf k)) ≡ 43
   wide = eqb-true _ _ (parts .2)
 
-  pub few : T (allFew (layoutOf k))
-  few = to-T (parts .3)
+  pub sound : T (areSound (layoutOf k))
+  sound = to-T (parts .3)
 
 -- ---- the part of a table that the code hands on
 
@@ -89,15 +89,15 @@ length-padded zero xs = refl
 length-padded (suc n) [] = ap suc (length-padded n [])
 length-padded (suc n) (x ∷ xs) = ap suc (length-padded n xs)
 
--- numbers of a kind's fields, padded to thirteen
-module _ (k : Kind) (count : ℕ) (l xs : List ℕ) (many : count ≡ length (layoutOf k)) (full : l ≡ padded 13 xs) (size : length xs ≡ length (layoutOf k)) where
+-- numbers of a kind's fields, padded to twelve
+module _ (k : Kind) (count : ℕ) (l xs : List ℕ) (many : count ≡ length (layoutOf k)) (full : l ≡ padded 12 xs) (size : length xs ≡ length (layoutOf k)) where
   pub part-is : take (count - 0) l ≡ xs
   part-is =
       let e : count - 0 ≡ length xs = omega arith in
-      ap₂ take e full ∙ cut 13 xs (omega (arith, short k))
+      ap₂ take e full ∙ cut 12 xs (omega (arith, short k))
 
   pub part-ends : count ≤ length l
-  part-ends = omega (arith, short k, ap length full ∙ length-padded 13 xs)
+  part-ends = omega (arith, short k, ap length full ∙ length-padded 12 xs)
 
 module _ (t : Table) (k : Kind) (e : t ≡ tableOf (layoutOf k)) where
   counted : t .count ≡ length (layoutOf k)
@@ -116,7 +116,7 @@ module _ (t : Table) (k : Kind) (e : t ≡ tableOf (layoutOf k)) where
   rules-end = part-ends k (t .count) (t .rules) (rulesOf (layoutOf k)) counted (ap (λ (x : Table). x .rules) e) (length-rules (layoutOf k))
 
 -- the values of a kind's fields
-module _ (t : Table) (k : Kind) (e : t ≡ tableOf (layoutOf k)) (vs : Values (layoutOf k)) (l : List ℕ) (full : l ≡ padded 13 (rawOf (layoutOf k) vs)) where
+module _ (t : Table) (k : Kind) (e : t ≡ tableOf (layoutOf k)) (vs : Values (layoutOf k)) (l : List ℕ) (full : l ≡ padded 12 (rawOf (layoutOf k) vs)) where
   pub values-are : take (t .count - 0) l ≡ rawOf (layoutOf k) vs
   values-are = part-is k (t .count) l (rawOf (layoutOf k) vs) (counted t k e) full (length-raw (layoutOf k) vs)
 

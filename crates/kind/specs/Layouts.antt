@@ -1,8 +1,9 @@
--- The kinds, their labels and their layouts (001, Annex A, Appendix 5, and Annex C, Appendices 2 and 3; 01, 'Messages'; 02, item 1). A layout
--- begins above the label, at bit 7.
+-- The kinds, their labels and their layouts (001, Annex A, Appendix 5, and Annex C, Appendices 2 and 3; 01, 'Messages'; 02, items 1 and 4). A
+-- layout begins above the label, at bit 7, and says of its bits what is a fixed pattern, what is spare (house rule: zero) and which codes are
+-- not used.
 use mathlib.Core.List.{List, [], _∷_}
 use Prim.Native.Nat.{ℕ}
-use Rattle.bits.specs.Layout.{Field, fixed, number, code, flag, signed}
+use Rattle.bits.specs.Layout.{Field, pattern, spare, number, code, flag, signed}
 use Rattle.kind.specs.declared.Kind.{Kind}
 use Rattle.kind.specs.declared.Kind.the-variants.{Blank, S0, S3, S4, S4Plus, S5, S6, S8, S8Plus, S9}
 
@@ -35,19 +36,13 @@ labelOf S8 = 21
 labelOf S8Plus = 53
 labelOf S9 = 5
 
--- house rule: spare bits are zero
-abbrev pub spare : ℕ → Field
-spare k = fixed k 0
-
 -- Appendix 3, paragraph 1: all zeros
 abbrev pub blankLayout : List Field
-blankLayout = spare 43 ∷ []
+blankLayout = pattern 43 0 ∷ []
 
 -- paragraph 2: each group holds the label's six bits and then a zero
 abbrev pub testLayout : List Field
-testLayout =
-    spare 1 ∷ fixed 6 46 ∷ spare 1 ∷ fixed 6 46 ∷ spare 1 ∷ fixed 6 46 ∷ spare 1
-    ∷ fixed 6 46 ∷ spare 1 ∷ fixed 6 46 ∷ spare 1 ∷ fixed 6 46 ∷ spare 1 ∷ []
+testLayout = pattern 1 0 ∷ pattern 7 46 ∷ pattern 7 46 ∷ pattern 7 46 ∷ pattern 7 46 ∷ pattern 7 46 ∷ pattern 7 46 ∷ []
 
 -- paragraph 5: 9-20 Mode 3/A, 21-23 request/reply, 24 emergency, 25, 26 and 27 presence of Modes 1, 2 and 3/A, 28 validation,
 -- 31-35 Mode 1, 38-49 Mode 2; 7, 8, 29, 30, 36, 37 spare
@@ -92,4 +87,4 @@ layoutOf S9 = cornerLayout
 
 -- all 49 bits: the label and the fields above it
 abbrev pub wholeOf : Kind → List Field
-wholeOf k = fixed 6 (labelOf k) ∷ layoutOf k
+wholeOf k = pattern 6 (labelOf k) ∷ layoutOf k

@@ -1,4 +1,4 @@
--- A layout as the code has it (01, 'Messages'): at most thirteen fields, with zeros behind them.
+-- A layout as the code has it (01, 'Messages'): at most twelve fields, with zeros behind them.
 use mathlib.Core.List.{List, [], _∷_}
 use Prim.Native.Nat.{ℕ, zero, suc}
 use lib.ListN.{length}
@@ -12,4 +12,4 @@ padded (suc n) [] = 0 ∷ padded n []
 padded (suc n) (x ∷ xs) = x ∷ padded n xs
 
 abbrev pub tableOf : List Field → Table
-tableOf fs = record { count = length fs; widths = padded 13 (widthsOf fs); rules = padded 13 (rulesOf fs) }
+tableOf fs = record { count = length fs; widths = padded 12 (widthsOf fs); rules = padded 12 (rulesOf fs) }

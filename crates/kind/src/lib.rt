@@ -8,7 +8,7 @@ ghost use Rattle.kind.specs.Labels.{kindFrom, labelledOf, refusalOf, nam
 
 mod layouts;
 
-pub use layouts::is_laid_out;
+pub use layouts::find_trouble;
 pub use layouts::layout;
 use refusal::Refusal;
 
@@ -34,8 +34,8 @@ pub enum Labelled {
 // A kind's layout above the label: the width and the rule of each field, with zeros behind the last.
 pub struct Table {
     pub count: usize,
-    pub widths: [u32; 13],
-    pub rules: [u64; 13],
+    pub widths: [u32; 12],
+    pub rules: [u64; 12],
 }
 
 // How many kinds there are.

@@ -80,7 +80,7 @@ pub data Asked : Type 0 where
 
 -- ---- what comes
 
--- beside the number and the place
+-- beside the number, the place and the bit
 pub data Value : Type 0 where
   nothing : Value
   pair : Message → Message → Value
@@ -89,17 +89,22 @@ pub data Value : Type 0 where
   message : Message → Value
   value : ℕ → Value
 
--- 01's number and place, and the value
+-- 01's number and place, 02's bit, and the value
 pub record Came : Type 0 where
   pub number : ℕ
   pub place : ℕ
+  pub bit : ℕ
   pub value : Value
 
+-- with no bit, and with one
 abbrev pub told : ℕ → ℕ → Value → Came
-told number place v = record { number = number; place = place; value = v }
+told number place v = record { number = number; place = place; bit = 0; value = v }
+
+abbrev pub toldBit : ℕ → ℕ → ℕ → Value → Came
+toldBit number place bit v = record { number = number; place = place; bit = bit; value = v }
 
 abbrev tell : Refusal → Value → Came
-tell r v = told (r .number) (r .place) v
+tell r v = toldBit (r .number) (r .place) (r .bit) v
 
 abbrev valueOpened : Opened → Value
 valueOpened (O.Pair first second) = pair first second

@@ -1,6 +1,6 @@
--- DEMAND 1: each public call checks its own input; a refusal gives its number and place, hands back the state that it was given and
--- writes nothing. For each public call that can refuse, of its own contract (`Post`, as in OneAnswer.antt): the refusal is one of
--- 01's table; a success has number 0 and place 0; on a refusal the state or message is what was handed in, each lent buffer is as it
+-- DEMAND 1: each public call checks its own input; a refusal gives its number, place and bit, hands back the state that it was given
+-- and writes nothing. For each public call that can refuse, of its own contract (`Post`, as in OneAnswer.antt): the refusal is one of
+-- 01's table as 02 amends it; a success has number, place and bit 0; on a refusal the state or message is what was handed in, each lent buffer is as it
 -- was, and the rest of the answer is zero. That no call stops, reads outside its buffer or runs on is what the prover shows of every
 -- function by itself, so no law says it. Assumes nothing.
 use mathlib.Core.Path.{_≡_, refl, ap, _∙_}
@@ -28,7 +28,7 @@ use Rattle.track.specs.TrackText as texts
 use Rattle.track.specs.declared.Tracked.{Tracked}
 use Rattle.track.specs.declared.Tracked.the-variants as T
 use Rattle.frame.specs.Words.{imageOf}
-use Rattle.message.specs.Codec.{encodedOf}
+use Rattle.message.specs.Codec.{messageWord}
 use Rattle.pair.specs.Opening as opening
 use Rattle.pair.specs.Closing.{closeChecks, closeRefusal, closeImage}
 use Rattle.pair.specs.declared.Opened.{Opened}
@@ -38,6 +38,8 @@ use Rattle.shift.specs.Shift.{newX, newY, shiftChecks, shiftRefusal, shiftedOf}
 use Rattle.shift.specs.declared.Shifted.{Shifted}
 use Rattle.bits.proofs.TestLaws.{zero-one}
 use Rattle.refusal.proofs.CheckLaws.{ofTable, first-of-table, Refuses, buffer-left, refusal-told}
+use Rattle.pair.proofs.FirstTrouble.{open-bits, close-bits}
+use Rattle.shift.proofs.Theorems.{shift-bits}
 use Rattle.frame.proofs.verdict.Reads as verdict
 use Rattle.line.proofs.Receiver.step.Reads as step
 use Rattle.line.proofs.send.Reads as send
@@ -50,29 +52,32 @@ use Rattle.pair.proofs.open.Reads as open-call
 use Rattle.pair.proofs.close.Reads as close
 use Rattle.shift.proofs.shift.Reads as shift
 
--- `ofTable r` is: number 0 with place 0, or a number of 1 to 11 with a place of 0, 1 or 2; `Refuses r`: the number is not 0
+-- `ofTable r` is: number 0 with place 0 and bit 0; a number of 1 to 7 or 9 to 11 with a place of 0, 1 or 2 and bit 0; or a number of 12 to 15
+-- with place 1 or 2 and a bit of 7 to 49. `Refuses r`: the number is not 0
 
 -- ---- calls that answer a refusal
 
 pub verdict-refuses : (κs : Lfts 1) (a : _) (e : _) (r : Refusal) → verdict.Post κs a r e → ofTable r ≡ true
 unfolding verdictOf
-verdict-refuses κs a e r p = ap ofTable p ∙ first-of-table (imageChecks (now (a .0))) refl
+verdict-refuses κs a e r p = ap ofTable p ∙ first-of-table (imageChecks (now (a .0))) refl tt
 
 -- and write a lent buffer, which on a refusal is as it was
 pub send-refuses : (κs : Lfts 2) (a : _) (e : _) (r : Refusal) → send.Post κs a r e
     → (ofTable r ≡ true) × (Refuses r → now (e .1 .1 .0) ≡ now (a .1 .1 .0))
 unfolding sendRefusal sendLevels
-send-refuses κs a e r p = buffer-left (sendChecks (now (a .0)) (a .1 .0) (now (a .1 .1 .0))) refl (levelsAfter (a .1 .0) (imageBits (now (a .0)))) _ (p .0) (p .1)
+send-refuses κs a e r p = buffer-left (sendChecks (now (a .0)) (a .1 .0) (now (a .1 .1 .0))) refl tt (levelsAfter (a .1 .0) (imageBits (now (a .0)))) _ (p .0) (p .1)
 
 pub close-refuses : (κs : Lfts 1) (a : _) (e : _) (r : Refusal) → close.Post κs a r e
     → (ofTable r ≡ true) × (Refuses r → now (e .1 .1 .0) ≡ now (a .1 .1 .0))
 unfolding closeRefusal closeImage
-close-refuses κs a e r p = buffer-left (closeChecks (a .0) (a .1 .0) (now (a .1 .1 .0))) refl (imageOf (encodedOf (a .0) .word) (encodedOf (a .1 .0) .word)) _ (p .0) (p .1)
+close-refuses κs a e r p =
+    buffer-left (closeChecks (a .0) (a .1 .0) (now (a .1 .1 .0))) refl (close-bits (a .0) (a .1 .0) (now (a .1 .1 .0)))
+    (imageOf (messageWord (a .0)) (messageWord (a .1 .0))) _ (p .0) (p .1)
 
 pub track-text-refuses : (κs : Lfts 1) (a : _) (e : _) (r : Refusal) → track-text.Post κs a r e
     → (ofTable r ≡ true) × (Refuses r → now (e .1 .0) ≡ now (a .1 .0))
 unfolding texts.textRefusal texts.textAfter
-track-text-refuses κs a e r p = buffer-left (texts.textChecks (a .0) (now (a .1 .0))) refl (texts.textOf (a .0)) _ (p .0) (p .1)
+track-text-refuses κs a e r p = buffer-left (texts.textChecks (a .0) (now (a .1 .0))) refl tt (texts.textOf (a .0)) _ (p .0) (p .1)
 
 -- ---- calls that answer a value or a refusal: the refusal of the answer is one of the table, and the case `Refused` is never a success.
 -- The value is then zero by its definition: `positionFound`, `numberIn`, `altitudeIn`
@@ -80,30 +85,30 @@ track-text-refuses κs a e r p = buffer-left (texts.textChecks (a .0) (now (a .1
 pub open-refuses : (κs : Lfts 1) (a : _) (e : _) (r : Opened) → open-call.Post κs a r e
     → (ofTable (opening.refusalOf r) ≡ true) × ((x : Refusal) → r ≡ O.Refused x → Refuses x)
 unfolding opening.openOf opening.openRefusal
-open-refuses κs a e r p = refusal-told (opening.openChecks (now (a .0))) refl O.Refused opening.refusalOf
+open-refuses κs a e r p = refusal-told (opening.openChecks (now (a .0))) refl (open-bits (now (a .0))) O.Refused opening.refusalOf
     (O.Pair (opening.wordMessage (opening.firstWord (now (a .0)))) (opening.wordMessage (opening.secondWord (now (a .0))))) (λ x. refl) refl (λ x z. zero-one (cc)) p
 
 pub kind-named-refuses : (κs : Lfts 0) (a : _) (e : _) (r : Named) → kind-named.Post κs a r e
     → (ofTable (labels.refusalOf r) ≡ true) × ((x : Refusal) → r ≡ N.Refused x → Refuses x)
 unfolding labels.namedOf labels.nameRefusal
 kind-named-refuses κs a e r p =
-    refusal-told (labels.nameChecks (a .0)) refl N.Refused labels.refusalOf (N.Kind (labels.kindNamed (labels.kindFrom allKinds (a .0)))) (λ x. refl) refl (λ x z. zero-one (cc)) p
+    refusal-told (labels.nameChecks (a .0)) refl tt N.Refused labels.refusalOf (N.Kind (labels.kindNamed (labels.kindFrom allKinds (a .0)))) (λ x. refl) refl (λ x z. zero-one (cc)) p
 
 pub search-refuses : (κs : Lfts 1) (a : _) (e : _) (r : Found) → search-call.Post κs a r e
     → (ofTable (searching.refusalOf r) ≡ true) × ((x : Refusal) → r ≡ F.Refused x → Refuses x)
 unfolding searching.searchOf searching.searchRefusal
 search-refuses κs a e r p =
-    refusal-told (searching.searchChecks (now (a .0)) (a .1 .0)) refl F.Refused searching.refusalOf (F.At (searching.leastFrom (now (a .0)) (a .1 .0))) (λ x. refl) refl (λ x z. zero-one (cc)) p
+    refusal-told (searching.searchChecks (now (a .0)) (a .1 .0)) refl tt F.Refused searching.refusalOf (F.At (searching.leastFrom (now (a .0)) (a .1 .0))) (λ x. refl) refl (λ x z. zero-one (cc)) p
 
 pub track-number-refuses : (κs : Lfts 1) (a : _) (e : _) (r : Tracked) → track-number.Post κs a r e
     → (ofTable (texts.refusalOf r) ≡ true) × ((x : Refusal) → r ≡ T.Refused x → Refuses x)
 unfolding texts.trackedOf texts.trackRefusal
-track-number-refuses κs a e r p = refusal-told (texts.trackChecks (now (a .0))) refl T.Refused texts.refusalOf (T.Number (texts.textNumber (now (a .0)))) (λ x. refl) refl (λ x z. zero-one (cc)) p
+track-number-refuses κs a e r p = refusal-told (texts.trackChecks (now (a .0))) refl tt T.Refused texts.refusalOf (T.Number (texts.textNumber (now (a .0)))) (λ x. refl) refl (λ x z. zero-one (cc)) p
 
 pub altitude-refuses : (κs : Lfts 0) (a : _) (e : _) (r : Height) → altitude.Post κs a r e
     → (ofTable (heights.refusalOf r) ≡ true) × ((x : Refusal) → r ≡ H.Refused x → Refuses x)
 unfolding heights.heightOf heights.heightRefusal
-altitude-refuses κs a e r p = refusal-told (heights.heightChecks (a .0 .0)) refl H.Refused heights.refusalOf (H.At (record { 0 = heights.altitudeOf (a .0 .0) })) (λ x. refl) refl (λ x z. zero-one (cc)) p
+altitude-refuses κs a e r p = refusal-told (heights.heightChecks (a .0 .0)) refl tt H.Refused heights.refusalOf (H.At (record { 0 = heights.altitudeOf (a .0 .0) })) (λ x. refl) refl (λ x z. zero-one (cc)) p
 
 -- the value of a refusal is zero
 pub no-position : (x : Refusal) → searching.positionFound (F.Refused x) ≡ 0
@@ -135,5 +140,5 @@ pub shift-refuses : (κs : Lfts 2) (a : _) (e : _) (r : Shifted) → shift.Post 
     → (ofTable (r .refusal) ≡ true) × (Refuses (r .refusal) → r .message ≡ a .0)
 unfolding shiftedOf shiftRefusal
 shift-refuses κs a e r p =
-    buffer-left (shiftChecks (a .0) (now (a .1 .0)) (now (a .1 .1 .0))) refl
+    buffer-left (shiftChecks (a .0) (now (a .1 .0)) (now (a .1 .1 .0))) refl (shift-bits (a .0) (now (a .1 .0)) (now (a .1 .1 .0)))
     (placedAt (a .0) (newX (a .0) (now (a .1 .0))) (newY (a .0) (now (a .1 .1 .0)))) (a .0) (ap (λ (s : Shifted). s .refusal) p) (ap (λ (s : Shifted). s .message) p)

@@ -11,7 +11,7 @@ use Rattle.frame.specs.Frame.{verdictOf}
 use Rattle.units.specs.Offsets.{within, areOffsets, sumZ}
 use Rattle.units.specs.Steps.{near}
 use Rattle.units.specs.Heights.{nearAlt, altitudeOf, heightRefusal, heightOf}
-use Rattle.message.specs.Codec.{encodedOf}
+use Rattle.message.specs.Codec.{messageTrouble}
 use Rattle.message.specs.declared.Amplifying.{Amplifying}
 use Rattle.message.specs.declared.Message.the-variants as m
 use Rattle.track.specs.TrackText.{textRefusal, textAfter}
@@ -83,5 +83,5 @@ examples =
     ∷ []
 
 pub examples-hold : answers examples ≡ expected examples
-unfolding examples answer openOf openRefusal pairOf verdictOf every sumOf numOf textRefusal textAfter shiftedOf shiftRefusal encodedOf areOffsets within sumZ near nearAlt altitudeOf heightRefusal heightOf
+unfolding examples answer openOf openRefusal pairOf verdictOf every sumOf numOf textRefusal textAfter shiftedOf shiftRefusal messageTrouble areOffsets within sumZ near nearAlt altitudeOf heightRefusal heightOf
 examples-hold = refl

@@ -3,13 +3,17 @@
 use mathlib.Core.Path.{_≡_, refl}
 use mathlib.Core.Bool.{true, false}
 use mathlib.Core.List.{List, [], _∷_, _++_, map}
-use Prim.Native.Nat.{ℕ, _+_, _-_}
+use Prim.Native.Nat.{ℕ, _+_, _-_, _*_, _/_, _%_, _^_}
+use lib.Dec.{eqb}
 use lib.IntN.{ℤ, pos, negsuc}
 use lib.ListN.{replicate, take, getD}
-use Rattle.bits.specs.Tests.{every}
+use Rattle.bits.specs.Tests.{pick, every}
 use Rattle.bits.specs.Numbers.{numOf, sumOf, tab}
 use Rattle.bits.specs.Octets.{octetsOf}
 use Rattle.bits.specs.Layout.{Field, widthOf}
+use Rattle.bits.specs.Trouble.{agreeing}
+use Rattle.refusal.specs.Refusals.{troubled}
+use Rattle.refusal.specs.declared.Refusal.{Refusal}
 use Rattle.kind.specs.Layouts.{allKinds, labelOf, layoutOf}
 use Rattle.kind.specs.Labels.{nameRefusal, namedOf}
 use Rattle.kind.specs.declared.Kind.{Kind}
@@ -20,7 +24,7 @@ use Rattle.line.specs.Sending.{sendRefusal, sendLevels}
 use Rattle.capture.specs.Search.{goodAt, firstGood, searchRefusal, searchOf}
 use Rattle.units.specs.Offsets.{within, areOffsets, sumZ}
 use Rattle.units.specs.Steps.{near}
-use Rattle.message.specs.Codec.{encodedOf}
+use Rattle.message.specs.Codec.{contentTrouble, messageTrouble, messageWord}
 use Rattle.message.specs.declared.Mode.the-variants.{Absent, Present}
 use Rattle.message.specs.declared.Iff.{Iff}
 use Rattle.message.specs.declared.Track.{Track}
@@ -36,7 +40,7 @@ use Rattle.pair.specs.Closing.{closeRefusal, closeImage}
 use Rattle.pair.specs.Zeroed.{zeroedImage}
 use Rattle.shift.specs.Shift.{shiftRefusal, shiftedOf}
 use Rattle.link1.proofs.Asking.{verdict-of, open-image, kind-named, close-pair, send-after, hear-after, search-from, number-of, text-of, shift-by}
-use Rattle.link1.proofs.Asking.{nothing, pair, buffer, heard, message, value, told, answer, Row, _⇒_, answers, expected, track, at, octets, levels}
+use Rattle.link1.proofs.Asking.{nothing, pair, buffer, heard, message, value, told, toldBit, answer, Row, _⇒_, answers, expected, track, at, octets, levels}
 use Rattle.link1.proofs.Examples.{imageT}
 
 -- ---- labels and bit places (01, 'Messages'; S.9: 02, item 1)
@@ -65,7 +69,7 @@ trackPlaces = 7 to 21 ∷ 22 to 23 ∷ 24 to 36 ∷ 37 to 49 ∷ []
 pub places-are :
     map placesOf allKinds
     ≡ (7 to 49 ∷ [])
-    ∷ (7 to 7 ∷ 8 to 13 ∷ 14 to 14 ∷ 15 to 20 ∷ 21 to 21 ∷ 22 to 27 ∷ 28 to 28 ∷ 29 to 34 ∷ 35 to 35 ∷ 36 to 41 ∷ 42 to 42 ∷ 43 to 48 ∷ 49 to 49 ∷ [])
+    ∷ (7 to 7 ∷ 8 to 14 ∷ 15 to 21 ∷ 22 to 28 ∷ 29 to 35 ∷ 36 to 42 ∷ 43 to 49 ∷ [])
     ∷ (7 to 8 ∷ 9 to 20 ∷ 21 to 23 ∷ 24 to 24 ∷ 25 to 25 ∷ 26 to 26 ∷ 27 to 27 ∷ 28 to 28 ∷ 29 to 30 ∷ 31 to 35 ∷ 36 to 37 ∷ 38 to 49 ∷ [])
     ∷ trackPlaces
     ∷ trackPlaces
@@ -76,6 +80,42 @@ pub places-are :
     ∷ (7 to 8 ∷ 9 to 10 ∷ 11 to 16 ∷ 17 to 18 ∷ 19 to 19 ∷ 20 to 23 ∷ 24 to 36 ∷ 37 to 49 ∷ [])
     ∷ []
 places-are = refl
+
+-- ---- each bit alone (02, item 4): the number that is told when bit 7, 8, .. 49 of a message is turned, with all other bits above the label
+-- zero, or as S.0's groups have them
+
+abbrev groups : ℕ
+groups = sumOf (λ g. 46 * 2 ^ (7 * g)) 7
+
+abbrev legal : Kind → ℕ
+legal kind = pick (eqb (labelOf kind) 46) groups 0
+
+abbrev turned : ℕ → ℕ → ℕ
+turned word bit = pick (eqb (word / 2 ^ (bit - 1) % 2) 0) (word + 2 ^ (bit - 1)) (word - 2 ^ (bit - 1))
+
+abbrev whenTurned : Kind → ℕ → Refusal
+whenTurned kind bit = troubled 1 (contentTrouble kind (turned (legal kind) bit))
+
+pub causes-are :
+    map (λ (kind : Kind). tab (λ i. whenTurned kind (7 + i) .number) 43) allKinds
+    ≡ replicate 43 12
+    ∷ replicate 43 12
+    ∷ (replicate 2 13 ++ replicate 12 0 ++ 14 ∷ replicate 7 0 ++ replicate 2 13 ++ replicate 5 0 ++ replicate 2 13 ++ replicate 12 0)
+    ∷ replicate 43 0
+    ∷ replicate 43 0
+    ∷ (replicate 9 0 ++ 14 ∷ replicate 33 0)
+    ∷ replicate 43 0
+    ∷ replicate 43 0
+    ∷ replicate 43 0
+    ∷ (replicate 2 0 ++ replicate 2 13 ++ replicate 9 0 ++ replicate 4 13 ++ replicate 26 0)
+    ∷ []
+unfolding sumOf tab numOf agreeing
+causes-are = refl
+
+-- and the bit is that bit, or 0 where nothing is told
+pub bits-are : map (λ (kind : Kind). every (λ i. eqb (whenTurned kind (7 + i) .bit) (pick (eqb (whenTurned kind (7 + i) .number) 0) 0 (7 + i))) 43) allKinds ≡ replicate 10 true
+unfolding sumOf every numOf agreeing
+bits-are = refl
 
 -- ---- messages with values that are all different; in three of them a code is left open
 
@@ -91,21 +131,25 @@ iffA n = record { mode3a = Present 1234; request = n; emergency = true; validati
 abbrev iffB : Iff
 iffB = record { mode3a = Absent; request = 2; emergency = false; validation = true; mode1 = Present 21; mode2 = Absent }
 
-abbrev amplifyingA : ℕ → Amplifying
-amplifyingA n =
+-- with an altitude, a strength and an X velocity
+abbrev amplifyingOf : ℕ → ℕ → ℤ → Amplifying
+amplifyingOf altitude strength vx =
     record {
-      altitude = record { 0 = 300 };
-      strength = n;
+      altitude = record { 0 = altitude };
+      strength = strength;
       identification = 9;
       special23 = 1;
       simulated = true;
       drop = false;
       traffic = 2;
-      vx = negsuc 76;
+      vx = vx;
       allocation = 3;
       special39 = 5;
       vy = pos 101;
     }
+
+abbrev amplifyingA : ℕ → Amplifying
+amplifyingA n = amplifyingOf 300 n (negsuc 76)
 
 abbrev amplifyingB : Amplifying
 amplifyingB =
@@ -190,7 +234,7 @@ abbrev imageCorners : List ℕ
 imageCorners = 0 ∷ 0xd0 ∷ 0xca ∷ 0xb4 ∷ 0x8e ∷ 0xcd ∷ 0xff ∷ 0xba ∷ 0xd1 ∷ 0x86 ∷ 0xd8 ∷ 0x96 ∷ 0xa0 ∷ 0x81 ∷ 0xc1 ∷ 0xaf ∷ []
 
 -- an image of two messages' octets and a check group; a message that is but a label; an S.5 of strength 1; an S.6 of elevation 13;
--- an S.9 with spare bit 20 or 9
+-- an S.9 with spare bit 20 or 9; an S.3 with spare bit 8 and request 1, and one with request 1 and spare bits 29 and 30; a Blank with bits 30 and 49
 abbrev image : List ℕ → List ℕ → ℕ → List ℕ
 image first second check = 0 ∷ first ++ second ++ check ∷ []
 
@@ -208,6 +252,25 @@ spare20 = 0xd0 ∷ 0x80 ∷ 0x82 ∷ replicate 4 0x80
 
 abbrev spare9 : List ℕ
 spare9 = 0xd0 ∷ 0xa0 ∷ replicate 5 0x80
+
+abbrev spare8request1 : List ℕ
+spare8request1 = 0xe4 ∷ 0xc0 ∷ 0x81 ∷ replicate 4 0x80
+
+abbrev request1spare29 : List ℕ
+request1spare29 = 0xe4 ∷ 0x80 ∷ 0x81 ∷ 0x80 ∷ 0xe0 ∷ replicate 2 0x80
+
+abbrev blank30and49 : List ℕ
+blank30and49 = replicate 4 0x80 ++ 0xa0 ∷ 0x80 ∷ 0x81 ∷ []
+
+-- S.0 as it is; with bits 14 and 15 turned; with bits 8 and 49
+abbrev test : List ℕ
+test = replicate 7 0xba
+
+abbrev test14and15 : List ℕ
+test14and15 = 0xba ∷ 0xbb ∷ 0xfa ∷ replicate 4 0xba
+
+abbrev test8and49 : List ℕ
+test8and49 = 0xba ∷ 0xfa ∷ replicate 4 0xba ++ 0xbb ∷ []
 
 -- a buffer with something in it, and no octets of a frame
 abbrev fives : ℕ → List ℕ
@@ -227,7 +290,7 @@ levelsT1 = levels "1111111100101100110100110010110011010011001011001101001100101
 abbrev far : Message
 far = at (pos 4096)
 
--- ---- the rows: number, place and what comes with them
+-- ---- the rows: number, place, bit where there is one, and what comes with them
 
 -- every field in its place (01, 'Messages')
 abbrev pub fields : List Row
@@ -274,29 +337,40 @@ pub named-hold : answers named ≡ expected named
 unfolding answer nameRefusal namedOf
 named-hold = refl
 
--- opening: 6 first (labels 37 and 24), 6 second, 7, 8 first, 8 second, each told before the next
+-- opening: 6 first (labels 37 and 24), 6 second, 7, 12 to 14 first, 12 to 14 second, each told before the next; of several troubles in one message
+-- the one at the lowest bit
 abbrev pub opening : List Row
 opening =
     (open-image (image (label 0xd2) (label 0x8c) 0xa1) ⇒ told 6 1 nothing)
     ∷ (open-image (image (label 0xc4) (label 0x8c) 0xb7) ⇒ told 6 2 nothing)
     ∷ (open-image (image strength1 strength1 0xff) ⇒ told 7 0 nothing)
-    ∷ (open-image (image elevation13 elevation13 0xff) ⇒ told 8 1 nothing)
-    ∷ (open-image (image (label 0xc4) elevation13 0xeb) ⇒ told 8 2 nothing)
-    ∷ (open-image (image spare20 (label 0xd0) 0xfd) ⇒ told 8 1 nothing)
-    ∷ (open-image (image (label 0xd0) spare9 0xdf) ⇒ told 8 2 nothing)
+    ∷ (open-image (image elevation13 elevation13 0xff) ⇒ toldBit 14 1 40 nothing)
+    ∷ (open-image (image (label 0xc4) elevation13 0xeb) ⇒ toldBit 14 2 40 nothing)
+    ∷ (open-image (image spare20 (label 0xd0) 0xfd) ⇒ toldBit 13 1 20 nothing)
+    ∷ (open-image (image (label 0xd0) spare9 0xdf) ⇒ toldBit 13 2 9 nothing)
+    ∷ (open-image (image (label 0xc6) spare8request1 0x9d) ⇒ toldBit 13 2 8 nothing)
+    ∷ (open-image (image (label 0xc6) request1spare29 0xbd) ⇒ toldBit 14 2 21 nothing)
+    ∷ (open-image (image (label 0xc4) blank30and49 0x9b) ⇒ toldBit 12 2 30 nothing)
+    ∷ (open-image (image test14and15 test8and49 0xff) ⇒ toldBit 12 1 14 nothing)
+    ∷ (open-image (image test test8and49 0xbf) ⇒ toldBit 12 2 8 nothing)
     ∷ []
 
 pub opening-hold : answers opening ≡ expected opening
-unfolding answer every numOf sumOf openRefusal openOf pairOf
+unfolding answer every numOf sumOf agreeing openRefusal openOf pairOf
 opening-hold = refl
 
--- closing: 2, 7, 8 first, 8 second, each told before the next, and the buffer left
+-- closing: 2, 7, 14 or 15 first, 14 or 15 second, each told before the next, and the buffer left; of an S.5 a number too wide at bit 7 before a
+-- code that is not used at 16, that code before a number too wide at 29, and a strength that is too wide, whatever its bits
 abbrev pub closing : List Row
 closing =
     (close-pair far m.S0 (fives 15) ⇒ told 2 0 (buffer (fives 15)))
     ∷ (close-pair far m.S0 (fives 16) ⇒ told 7 0 (buffer (fives 16)))
-    ∷ (close-pair far far (fives 16) ⇒ told 8 1 (buffer (fives 16)))
-    ∷ (close-pair (at (pos 0)) far (fives 16) ⇒ told 8 2 (buffer (fives 16)))
+    ∷ (close-pair far far (fives 16) ⇒ toldBit 15 1 24 (buffer (fives 16)))
+    ∷ (close-pair (at (pos 0)) far (fives 16) ⇒ toldBit 15 2 24 (buffer (fives 16)))
+    ∷ (close-pair (m.S4Plus trackA) (m.S5 (amplifyingOf 512 1 (pos 0))) (fives 16) ⇒ toldBit 15 2 7 (buffer (fives 16)))
+    ∷ (close-pair (m.S4Plus trackA) (m.S5 (amplifyingOf 511 1 (pos 128))) (fives 16) ⇒ toldBit 14 2 16 (buffer (fives 16)))
+    ∷ (close-pair (m.S4Plus trackA) (m.S5 (amplifyingOf 511 9 (pos 128))) (fives 16) ⇒ toldBit 15 2 16 (buffer (fives 16)))
+    ∷ (close-pair (m.S4Plus trackA) (m.S5 (amplifyingOf 511 2 (negsuc 128))) (fives 16) ⇒ toldBit 15 2 29 (buffer (fives 16)))
     ∷ (close-pair (m.S4 trackA) (m.S8 trackB) (fives 16) ⇒ told 0 0 (buffer imageAB))
     ∷ (close-pair (m.S8Plus trackB) (m.S3 iffB) imageDigitsB ⇒ told 0 0 (buffer imageIffB))
     ∷ (close-pair (m.S9 (cornerA (negsuc 1233) (pos 3007))) (m.S9 cornerB) (fives 16) ⇒ told 0 0 (buffer imageCorners))
@@ -304,7 +378,7 @@ closing =
     ∷ []
 
 pub closing-hold : answers closing ≡ expected closing
-unfolding answer numOf sumOf tab octetsOf imageOf pairOf closeRefusal closeImage encodedOf
+unfolding answer numOf sumOf tab octetsOf imageOf pairOf closeRefusal closeImage messageTrouble messageWord
 closing-hold = refl
 
 -- zeroed images (02, item 2): the digits left in absent modes are gone and the check octet is worked anew; the other images are their own
@@ -387,13 +461,13 @@ shifting =
     ∷ []
 
 pub shifting-hold : answers shifting ≡ expected shifting
-unfolding answer encodedOf shiftedOf shiftRefusal areOffsets within sumZ near
+unfolding answer messageTrouble shiftedOf shiftRefusal areOffsets within sumZ near
 shifting-hold = refl
 
--- shifting: 8, 2 X, 2 Y, 9 on X offsets, 9 on Y offsets, 9 on X result, 9 on Y result, each told before the next; offsets reach from -6,144,000
+-- shifting: 15, 2 X, 2 Y, 9 on X offsets, 9 on Y offsets, 9 on X result, 9 on Y result, each told before the next; offsets reach from -6,144,000
 abbrev pub shift-orders : List Row
 shift-orders =
-    (shift-by far (replicate 9 (pos 0)) [] ⇒ told 8 1 (message far))
+    (shift-by far (replicate 9 (pos 0)) [] ⇒ toldBit 15 1 24 (message far))
     ∷ (shift-by (at (pos 0)) (replicate 9 (pos 0)) (replicate 9 (pos 0)) ⇒ told 2 1 (message (at (pos 0))))
     ∷ (shift-by (at (pos 0)) (pos 6144001 ∷ []) (replicate 9 (pos 0)) ⇒ told 2 2 (message (at (pos 0))))
     ∷ (shift-by (at (pos 0)) (pos 6144001 ∷ []) (pos 6144001 ∷ []) ⇒ told 9 1 (message (at (pos 0))))
@@ -405,7 +479,7 @@ shift-orders =
     ∷ []
 
 pub shift-orders-hold : answers shift-orders ≡ expected shift-orders
-unfolding answer encodedOf shiftedOf shiftRefusal areOffsets within sumZ near
+unfolding answer messageTrouble shiftedOf shiftRefusal areOffsets within sumZ near
 shift-orders-hold = refl
 
 -- ---- codes that are not used (01, 'Messages'): the number that closing answers for each value
@@ -414,16 +488,16 @@ abbrev numberClosing : Message → Message → ℕ
 numberClosing first second = closeRefusal first second (fives 16) .number
 
 -- request/reply 1, 3, 5, 6 and 7
-pub requests-are : tab (λ n. numberClosing (m.S4Plus trackA) (m.S3 (iffA n))) 8 ≡ 0 ∷ 8 ∷ 0 ∷ 8 ∷ 0 ∷ 8 ∷ 8 ∷ 8 ∷ []
-unfolding tab closeRefusal pairOf encodedOf
+pub requests-are : tab (λ n. numberClosing (m.S4Plus trackA) (m.S3 (iffA n))) 8 ≡ 0 ∷ 14 ∷ 0 ∷ 14 ∷ 0 ∷ 14 ∷ 14 ∷ 14 ∷ []
+unfolding tab closeRefusal pairOf messageTrouble
 requests-are = refl
 
 -- strength 1
-pub strengths-are : tab (λ n. numberClosing (m.S4Plus trackA) (m.S5 (amplifyingA n))) 8 ≡ 0 ∷ 8 ∷ replicate 6 0
-unfolding tab closeRefusal pairOf encodedOf
+pub strengths-are : tab (λ n. numberClosing (m.S4Plus trackA) (m.S5 (amplifyingA n))) 8 ≡ 0 ∷ 14 ∷ replicate 6 0
+unfolding tab closeRefusal pairOf messageTrouble
 strengths-are = refl
 
 -- elevation 13 to 15
-pub elevations-are : tab (λ n. numberClosing (m.S6 (strobeA n)) m.Blank) 16 ≡ replicate 13 0 ++ 8 ∷ 8 ∷ 8 ∷ []
-unfolding tab closeRefusal pairOf encodedOf
+pub elevations-are : tab (λ n. numberClosing (m.S6 (strobeA n)) m.Blank) 16 ≡ replicate 13 0 ++ 14 ∷ 14 ∷ 14 ∷ []
+unfolding tab closeRefusal pairOf messageTrouble
 elevations-are = refl

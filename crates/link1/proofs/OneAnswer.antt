@@ -8,6 +8,7 @@ use contract.Lifetimes.{Lfts}
 use denote.Ref.{now}
 use Rattle.refusal.proofs.Refusal.of.Reads as of
 use Rattle.refusal.proofs.Refusal.at.Reads as at
+use Rattle.refusal.proofs.Refusal.inside.Reads as inside
 use Rattle.frame.proofs.verdict.Reads as verdict
 use Rattle.line.proofs.Receiver.fresh.Reads as fresh
 use Rattle.line.proofs.Receiver.step.Reads as step
@@ -46,6 +47,9 @@ of-one κs a r s e f p q = same p q
 
 pub at-one : (κs : Lfts 0) (a : _) → One (at.Post κs a)
 at-one κs a r s e f p q = same p q
+
+pub inside-one : (κs : Lfts 0) (a : _) → One (inside.Post κs a)
+inside-one κs a r s e f p q = same p q
 
 -- ---- levels, frames and captures
 

@@ -2,18 +2,21 @@
 
 // The numbers a caller may get back.
 pub use refusal::BAD_CHECK;
-pub use refusal::BAD_CONTENT;
 pub use refusal::BAD_LENGTH;
 pub use refusal::BAD_LEVEL;
 pub use refusal::BAD_MARK;
 pub use refusal::BAD_PAIR;
+pub use refusal::BAD_PATTERN;
 pub use refusal::BAD_START;
 pub use refusal::NO_FRAME;
 pub use refusal::NO_POSITION;
 pub use refusal::OUT_OF_RANGE;
 pub use refusal::Refusal;
+pub use refusal::SPARE_BIT;
 pub use refusal::SUCCESS;
+pub use refusal::TOO_WIDE;
 pub use refusal::UNKNOWN_LABEL;
+pub use refusal::UNUSED_CODE;
 
 // Levels, frames and captures.
 pub use capture::Found;

@@ -1,10 +1,11 @@
--- 01, 'The listing program': the whole of what is written for a log.
+-- 01, 'The listing program', and 02, item 4: the whole of what is written for a log.
 use Prim.Native.Nat.{ℕ, zero, suc, _*_, _/_, _%_}
 use mathlib.Core.List.{List, [], _∷_, _++_}
 use lib.ListN.{length, take, drop}
-use lib.Dec.{ltb}
-use Rattle.bits.specs.Tests.{pick}
-use Rattle.refusal.specs.Refusals.{success}
+use mathlib.Core.Bool.{Bool}
+use lib.Dec.{leb, ltb}
+use Rattle.bits.specs.Tests.{pick, both}
+use Rattle.refusal.specs.Refusals.{success, badPattern, tooWide}
 use Rattle.kind.specs.Layouts.{labelOf}
 use Rattle.message.specs.Messages.{kindOf}
 use Rattle.pair.specs.Opening.{openOf}
@@ -16,10 +17,14 @@ use Rattle.listing.specs.Text.{octets, row}
 abbrev pub header : List ℕ
 header = octets "LINK1\n"
 
+-- the bit is 'a fourth number for these refusals only', 12 to 15 (02, item 4)
+abbrev pub hasBit : ℕ → Bool
+hasBit number = both (leb badPattern number) (leb number tooWide)
+
 -- 'per image its number from 1 and, if opened, 0 and both labels, else the refusal and place'
 abbrev pub numbersOf : ℕ → Opened → List ℕ
 numbersOf n (Pair first second) = n ∷ success ∷ labelOf (kindOf first) ∷ labelOf (kindOf second) ∷ []
-numbersOf n (Refused r) = n ∷ r .number ∷ r .place ∷ []
+numbersOf n (Refused r) = n ∷ r .number ∷ r .place ∷ pick (hasBit (r .number)) (r .bit ∷ []) []
 
 -- the line of image n
 unfoldable pub imageLine : ℕ → Opened → List ℕ

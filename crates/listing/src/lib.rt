@@ -8,9 +8,11 @@ ghost use Rattle.kind.specs.Layouts.{labelOf};
 ghost use Rattle.message.specs.Messages.{kindOf};
 ghost use Rattle.listing.specs.Text.{decThen, row};
 ghost use Rattle.listing.specs.Wrote.{Wrote};
-ghost use Rattle.listing.specs.Listing.{imageLine, lastLine, listingOf};
+ghost use Rattle.pair.specs.declared.Opened.the-variants.{Refused};
+ghost use Rattle.listing.specs.Listing.{hasBit, imageLine, lastLine, listingOf};
 use link1::Message;
 use link1::Opened;
+use link1::Refusal;
 
 // The longest log that is listed, in octets: 4,096 images.
 const MOST: usize = 65536;
@@ -68,6 +70,30 @@ fn wide(x: u8) -> u64
     x as u64
 }
 
+// Whether a refusal of this number comes with a bit.
+fn has_bit(number: u8) -> bool
+    ensures { λ r. ⌜ r ≡ hasBit number ⌝ }
+{
+    if number < link1::BAD_PATTERN {
+        return false;
+    }
+    number <= link1::TOO_WIDE
+}
+
+// Puts the line of image n, which is refused.
+fn put_refusal(out: &mut [u8], at: usize, n: u64, r: Refusal) -> usize
+    requires { ⌜ (at + 84 ≤ length (now out)) × (n < 10000) ⌝ }
+    ensures { λ t. ⌜ Wrote (now (out .entry)) at (imageLine n (Refused r)) (now (out .exit)) t ⌝ }
+    ensures { λ t. ⌜ t ≤ at + 20 ⌝ }
+{
+    let number = wide(r.number);
+    let place = wide(r.place);
+    if has_bit(r.number) {
+        return put_row(out, at, &[n, number, place, wide(r.bit)]);
+    }
+    put_row(out, at, &[n, number, place])
+}
+
 // Puts the line of image n: at most four numbers, of at most four digits each.
 fn put_image(out: &mut [u8], at: usize, n: u64, opened: Opened) -> usize
     requires { ⌜ (at + 84 ≤ length (now out)) × (n < 10000) ⌝ }
@@ -76,7 +102,7 @@ fn put_image(out: &mut [u8], at: usize, n: u64, opened: Opened) -> usize
 {
     match opened {
         Opened::Pair(first, second) => put_row(out, at, &[n, 0, label(first), label(second)]),
-        Opened::Refused(r) => put_row(out, at, &[n, wide(r.number), wide(r.place)]),
+        Opened::Refused(r) => put_refusal(out, at, n, r),
     }
 }
 

@@ -1,2 +1,4 @@
+pub mod CodecLaws
 pub mod RoundTrip
 pub mod ZeroedLaws
+pub mod FirstTrouble

@@ -9,7 +9,10 @@ use borrow.Author.Tests.{eqb-true, ne-eqb, leb-true}
 use lib.Dec.{eqb, leb, lit<, lit≤}
 use Rattle.bits.specs.Tests.{pick, both, every}
 use Rattle.bits.specs.Numbers.{numOf, fieldOf}
-use Rattle.bits.specs.Layout.{noneOf, allowed, split}
+use Rattle.bits.specs.Layout.{split}
+use Rattle.bits.specs.Trouble.{orElse, noneOf, differing, trouble}
+use Rattle.bits.specs.declared.Cause.the-variants.{Spare, Unused}
+use Rattle.bits.specs.declared.Trouble.the-variants.{Nothing, Wrong}
 use Rattle.kind.specs.Layouts.{iffLayout}
 use Rattle.message.specs.Messages.{modeOf, presenceOf, codeOf, iffFrom, iffParts}
 use Rattle.message.specs.Zeroed.{presenceBit, isIff, isAbsent, isUnread, zeroedBit, NoDigits}
@@ -169,14 +172,16 @@ module _ (b : ℕ → ℕ) (bits : (i : ℕ) → b i < 2) where
         λ i. (tt, (code3 i, (request i, (emergency i, (present1 i, (present2 i, (present3 i, (validation i, (tt, (code1 i, (tt, (code2 i, tt))))))))))))
 
   -- what is asked of a field is asked of none in a code
-  pub iff-allowed : allowed 6 iffLayout zeroed ≡ allowed 6 iffLayout came
+  pub iff-trouble : trouble 6 iffLayout zeroed ≡ trouble 6 iffLayout came
   unfolding every
-  iff-allowed =
+  iff-trouble =
       let spare7 = stays 6 2 (lit≤ tt) refl in
       let request = stays 20 3 (lit≤ tt) refl in
       let spare29 = stays 28 2 (lit≤ tt) refl in
       let spare36 = stays 35 2 (lit≤ tt) refl in
       let high : zeroed / 2 ^ 49 ≡ came / 2 ^ 49 = above (zeroedBit b) (zeroed-lt b bits) ∙ sym (above b bits) in
       λ i.
-      both (eqb (spare7 i) 0)
-      (both (noneOf (1 ∷ 3 ∷ 5 ∷ 6 ∷ 7 ∷ []) (request i)) (both (eqb (spare29 i) 0) (both (eqb (spare36 i) 0) (eqb (high i) 0))))
+      orElse (differing Spare 6 2 (spare7 i) 0)
+      (orElse (pick (noneOf (1 ∷ 3 ∷ 5 ∷ 6 ∷ 7 ∷ []) (request i)) Nothing (Wrong Unused 21))
+      (orElse (differing Spare 28 2 (spare29 i) 0)
+      (orElse (differing Spare 35 2 (spare36 i) 0) (pick (eqb (high i) 0) Nothing (Wrong Spare 50)))))

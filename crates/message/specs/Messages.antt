@@ -116,7 +116,7 @@ kindOf (m.S9 c) = S9
 
 abbrev pub partsOf : (msg : Message) → Values (layoutOf (kindOf msg))
 partsOf m.Blank = (tt, tt)
-partsOf m.S0 = (tt, (tt, (tt, (tt, (tt, (tt, (tt, (tt, (tt, (tt, (tt, (tt, (tt, tt)))))))))))))
+partsOf m.S0 = (tt, (tt, (tt, (tt, (tt, (tt, (tt, tt)))))))
 partsOf (m.S3 i) = iffParts i
 partsOf (m.S4 t) = trackParts t
 partsOf (m.S4Plus t) = trackParts t

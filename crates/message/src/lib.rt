@@ -2,13 +2,16 @@
 
 ghost use mathlib.Core.Path.{_≡_};
 ghost use Rattle.message.specs.Messages.{kindOf};
-ghost use Rattle.message.specs.Codec.{contentOf, encodedOf};
+ghost use Rattle.bits.specs.Rules.{packedIf};
+ghost use Rattle.message.specs.Codec.{contentOf, messageTrouble, messageWord, encodedOf};
 
 mod reading;
 mod writing;
 
 use bits::Packed;
+use bits::Trouble;
 use kind::Kind;
+use refusal::Refusal;
 use units::AltSteps;
 use units::LinkSteps;
 
@@ -88,10 +91,16 @@ pub enum Message {
     S9(Corner),
 }
 
-// What a word of a known kind holds.
+// What a word of a known kind holds: a message, or what is wrong inside it.
 pub enum Content {
     Good(Message),
-    Bad,
+    Refused(Refusal),
+}
+
+// The word of a message, or what is wrong inside it.
+pub enum Encoded {
+    Word(u64),
+    Refused(Refusal),
 }
 
 // The kind of a message.
@@ -112,19 +121,20 @@ pub fn kind_of(m: Message) -> Kind
     }
 }
 
-// The content of a word of a known kind.
-pub fn read_content(k: Kind, word: u64) -> Content
-    ensures { λ r. ⌜ r ≡ contentOf k word ⌝ }
+// The content of a word of a known kind, as message `place` of a frame: 12, 13, 14.
+pub fn read_content(place: u8, k: Kind, word: u64) -> Content
+    ensures { λ r. ⌜ r ≡ contentOf place k word ⌝ }
 {
-    if !kind::is_laid_out(k, word) {
-        return Content::Bad;
+    let t = kind::find_trouble(k, word);
+    if let Trouble::Wrong(cause, bit) = t {
+        return Content::Refused(refusal::refuse(place, cause, bit));
     }
     Content::Good(reading::read_message(k, word))
 }
 
-// The word of a message, if each value fits its field.
-pub fn encode(m: Message) -> Packed
-    ensures { λ r. ⌜ r ≡ encodedOf m ⌝ }
+// The values of a message packed by its layout.
+fn pack(m: Message) -> Packed
+    ensures { λ r. ⌜ r ≡ packedIf (messageTrouble m) (messageWord m) ⌝ }
 {
     let k = kind_of(m);
     let table = kind::layout(k);
@@ -139,4 +149,14 @@ pub fn encode(m: Message) -> Packed
         &rules[0..count],
         &numbers[0..count],
     )
+}
+
+// The word of a message, as message `place` of a frame: 14, 15.
+pub fn encode(place: u8, m: Message) -> Encoded
+    ensures { λ r. ⌜ r ≡ encodedOf place m ⌝ }
+{
+    match pack(m) {
+        Packed::Word(word) => Encoded::Word(word),
+        Packed::Wrong(cause, bit) => Encoded::Refused(refusal::refuse(place, cause, bit)),
+    }
 }

@@ -58,8 +58,8 @@ fn code(m: Mode) -> u64
     }
 }
 
-fn write_iff(i: Iff) -> [u64; 13]
-    ensures { λ r. ⌜ r ≡ padded 13 (rawOf iffLayout (iffParts i)) ⌝ }
+fn write_iff(i: Iff) -> [u64; 12]
+    ensures { λ r. ⌜ r ≡ padded 12 (rawOf iffLayout (iffParts i)) ⌝ }
 {
     let mode1 = i.mode1;
     let mode2 = i.mode2;
@@ -77,12 +77,11 @@ fn write_iff(i: Iff) -> [u64; 13]
         code(mode1),
         0,
         code(mode2),
-        0,
     ]
 }
 
-fn write_track(t: Track) -> [u64; 13]
-    ensures { λ r. ⌜ r ≡ padded 13 (rawOf trackLayout (trackParts t)) ⌝ }
+fn write_track(t: Track) -> [u64; 12]
+    ensures { λ r. ⌜ r ≡ padded 12 (rawOf trackLayout (trackParts t)) ⌝ }
 {
     let x = t.x;
     let y = t.y;
@@ -99,12 +98,11 @@ fn write_track(t: Track) -> [u64; 13]
         0,
         0,
         0,
-        0,
     ]
 }
 
-fn write_amplifying(a: Amplifying) -> [u64; 13]
-    ensures { λ r. ⌜ r ≡ padded 13 (rawOf amplifyingLayout (amplifyingParts a)) ⌝ }
+fn write_amplifying(a: Amplifying) -> [u64; 12]
+    ensures { λ r. ⌜ r ≡ padded 12 (rawOf amplifyingLayout (amplifyingParts a)) ⌝ }
 {
     let altitude = a.altitude;
     [
@@ -120,12 +118,11 @@ fn write_amplifying(a: Amplifying) -> [u64; 13]
         wide8(a.special39),
         velocity_bits(a.vy),
         0,
-        0,
     ]
 }
 
-fn write_strobe(s: Strobe) -> [u64; 13]
-    ensures { λ r. ⌜ r ≡ padded 13 (rawOf strobeLayout (strobeParts s)) ⌝ }
+fn write_strobe(s: Strobe) -> [u64; 12]
+    ensures { λ r. ⌜ r ≡ padded 12 (rawOf strobeLayout (strobeParts s)) ⌝ }
 {
     [
         bits::bit_of(s.acquisition),
@@ -140,12 +137,11 @@ fn write_strobe(s: Strobe) -> [u64; 13]
         wide8(s.age),
         0,
         0,
-        0,
     ]
 }
 
-fn write_corner(c: Corner) -> [u64; 13]
-    ensures { λ r. ⌜ r ≡ padded 13 (rawOf cornerLayout (cornerParts c)) ⌝ }
+fn write_corner(c: Corner) -> [u64; 12]
+    ensures { λ r. ⌜ r ≡ padded 12 (rawOf cornerLayout (cornerParts c)) ⌝ }
 {
     let x = c.x;
     let y = c.y;
@@ -162,18 +158,17 @@ fn write_corner(c: Corner) -> [u64; 13]
         0,
         0,
         0,
-        0,
     ]
 }
 
 // S.0's pattern, field by field.
-const TEST_VALUES: [u64; 13] = [0, 46, 0, 46, 0, 46, 0, 46, 0, 46, 0, 46, 0];
+const TEST_VALUES: [u64; 12] = [0, 46, 46, 46, 46, 46, 46, 0, 0, 0, 0, 0];
 
-pub fn values(m: Message) -> [u64; 13]
+pub fn values(m: Message) -> [u64; 12]
     ensures { λ r. ⌜ r ≡ valuesOf m ⌝ }
 {
     match m {
-        Message::Blank => [0; 13],
+        Message::Blank => [0; 12],
         Message::S0 => TEST_VALUES,
         Message::S3(i) => write_iff(i),
         Message::S4(t) => write_track(t),

@@ -10,20 +10,19 @@ use lib.Dec.{lit≤}
 use lib.ListN.{length, getD}
 use Rattle.bits.specs.Tests.{both}
 use Rattle.bits.specs.Octets.{bitAt}
-use Rattle.bits.specs.declared.Packed.{Packed}
+use Rattle.bits.specs.declared.Trouble.the-variants.{Nothing}
 use Rattle.refusal.specs.Refusals.{numbered, success}
 use Rattle.refusal.specs.declared.Refusal.{Refusal}
 use Rattle.frame.specs.Frame.{goodFrame, verdictOf}
 use Rattle.frame.specs.Words.{placeOf, wordOf, imageOf}
 use Rattle.message.specs.Messages.{kindOf}
 use Rattle.kind.specs.Labels.{labelledOf, isKnown, kindNamed}
-use Rattle.message.specs.Codec.{contentOf, encodedOf}
+use Rattle.message.specs.Codec.{messageTrouble, messageWord}
 use Rattle.message.specs.declared.Message.{Message}
 use Rattle.kind.specs.declared.Labelled.{Labelled}
 use Rattle.kind.specs.declared.Labelled.the-variants.{Known, Unknown}
-use Rattle.message.specs.declared.Content.the-variants.{Good}
 use Rattle.pair.specs.Pairs.{pairOf}
-use Rattle.pair.specs.Opening.{isLabelled, wordKind, isContent, wordMessage, firstWord, secondWord, openChecks, openRefusal, openOf, openWords, openContents}
+use Rattle.pair.specs.Opening.{isLabelled, wordKind, wordTrouble, wordMessage, firstWord, secondWord, openChecks, openRefusal, openOf, openWords, openContents}
 use Rattle.pair.specs.Closing.{closeChecks, closeRefusal, closeImage}
 use Rattle.pair.specs.Zeroed.{messageOf, zeroedFrame, zeroedImage, Clear}
 use Rattle.pair.specs.declared.Opened.the-variants.{Pair, Refused}
@@ -32,9 +31,9 @@ use Rattle.bits.proofs.OctetLaws.{bit-lt}
 use Rattle.refusal.proofs.CheckLaws.{Passed, success-passed, answer-is}
 use Rattle.frame.proofs.FrameLaws.{verdict-good, verdict-image}
 use Rattle.frame.proofs.WordLaws.{image-good, length-image, image-first, image-second}
-use Rattle.message.proofs.RoundTrip.{packed, read-written, kind-read, written-read}
+use Rattle.message.proofs.RoundTrip.{Writes, read-written, kind-read, written-read}
 use Rattle.pair.proofs.ZeroedLaws.{zeroed-word, zeroed-frame, zeroed-once, clear-own}
-use Rattle.pair.proofs.PairLaws.{open-good, words-by, in-table, content-good, close-good, buffer-written}
+use Rattle.pair.proofs.PairLaws.{open-good, words-by, in-table, close-good, buffer-written}
 
 -- ---- a word whose label is known and whose content is legal
 
@@ -42,20 +41,12 @@ known-is : (l : Labelled) → isKnown l ≡ true → l ≡ Known (kindNamed l)
 known-is (Known k) e = refl
 known-is Unknown e = absurd (clash e refl)
 
-module _ (v : ℕ) (m : Message) (is : wordMessage v ≡ m) (kept : isContent v ≡ true) where
-  content-is : contentOf (wordKind v) v ≡ Good m
-  unfolding contentOf
-  content-is = rw (kept, is)
-
-  word-kind : kindOf m ≡ wordKind v
-  word-kind = kind-read (wordKind v) v m content-is
-
 module _ (first second : Message) where
   -- the pair is in the table, and v and w are its words
   record Words (v w : ℕ) : Type 0 where
     paired : pairOf (kindOf first) (kindOf second) ≡ true
-    one : encodedOf first ≡ packed v
-    two : encodedOf second ≡ packed w
+    one : Writes first v
+    two : Writes second w
 
   -- ---- an image that opens closes to its zeroed image
 
@@ -77,12 +68,12 @@ module _ (first second : Message) where
 
     -- the message that is read from word k is written as word k of the zeroed frame
     word-written : (k : ℕ) (m : Message) → 1 ≤ k → k ≤ 2
-        → wordMessage (wordOf (bitAt image) k) ≡ m → isLabelled (wordOf (bitAt image) k) ≡ true → isContent (wordOf (bitAt image) k) ≡ true
-        → encodedOf m ≡ packed (wordOf (zeroedFrame (bitAt image)) k)
-    word-written k m h l is label kept =
+        → wordMessage (wordOf (bitAt image) k) ≡ m → isLabelled (wordOf (bitAt image) k) ≡ true → wordTrouble (wordOf (bitAt image) k) ≡ Nothing
+        → Writes m (wordOf (zeroedFrame (bitAt image)) k)
+    word-written k m h l is label none =
         let v = wordOf (bitAt image) k in
-        read-written (messageOf (bitAt image) k) (λ i. bit-lt image (placeOf k i)) (wordKind v) m (known-is (labelledOf v) label) (content-is v m is kept)
-        ∙ ap packed (zeroed-word (bitAt image) (bit-lt image) good k h l)
+        let p = read-written (messageOf (bitAt image) k) (λ i. bit-lt image (placeOf k i)) (wordKind v) m (known-is (labelledOf v) label) none is in
+        (p .0, p .1 ∙ zeroed-word (bitAt image) (bit-lt image) good k h l)
 
     opened-words : Words (wordOf (zeroedFrame (bitAt image)) 1) (wordOf (zeroedFrame (bitAt image)) 2)
     opened-words =
@@ -90,12 +81,12 @@ module _ (first second : Message) where
         let e = answer .1 in
         let a : wordMessage (firstWord image) ≡ first = cc in
         let b : wordMessage (secondWord image) ≡ second = cc in
-        let kept-1 = p .1 .1 .1 .0 in
-        let kept-2 = p .1 .1 .1 .1 .0 in
+        let kind-1 : kindOf first ≡ wordKind (firstWord image) = sym (ap kindOf a) ∙ kind-read (wordKind (firstWord image)) (firstWord image) in
+        let kind-2 : kindOf second ≡ wordKind (secondWord image) = sym (ap kindOf b) ∙ kind-read (wordKind (secondWord image)) (secondWord image) in
         record {
-          paired = ap₂ pairOf (word-kind (firstWord image) first a kept-1) (word-kind (secondWord image) second b kept-2) ∙ p .1 .1 .0;
-          one = word-written 1 first (lit≤ tt) (lit≤ tt) a (p .0) kept-1;
-          two = word-written 2 second (lit≤ tt) (lit≤ tt) b (p .1 .0) kept-2;
+          paired = ap₂ pairOf kind-1 kind-2 ∙ p .1 .1 .0;
+          one = word-written 1 first (lit≤ tt) (lit≤ tt) a (p .0) (p .1 .1 .1 .0);
+          two = word-written 2 second (lit≤ tt) (lit≤ tt) b (p .1 .0) (p .1 .1 .1 .1 .0);
         }
 
     pub opened-closes : (buffer : List ℕ) → length buffer ≡ 16
@@ -103,9 +94,9 @@ module _ (first second : Message) where
     unfolding zeroedImage
     opened-closes buffer sixteen =
         let x = opened-words in
-        let e = close-good first second buffer sixteen (x .paired) (ap (λ (p : Packed). p .fits) (x .one)) (ap (λ (p : Packed). p .fits) (x .two)) in (
+        let e = close-good first second buffer sixteen (x .paired) (x .one .0) (x .two .0) in (
           e,
-          sym (buffer-written first second buffer e) ∙ ap₂ (λ (p q : Packed). imageOf (p .word) (q .word)) (x .one) (x .two)
+          sym (buffer-written first second buffer e) ∙ ap₂ imageOf (x .one .1) (x .two .1)
               ∙ zeroed-frame (bitAt image) (bit-lt image) good,
         )
 
@@ -114,8 +105,8 @@ module _ (first second : Message) where
   -- the pair is in the table, with legal content
   pub record Legal : Type 0 where
     pub paired : pairOf (kindOf first) (kindOf second) ≡ true
-    pub one : encodedOf first .fits ≡ true
-    pub two : encodedOf second .fits ≡ true
+    pub one : messageTrouble first ≡ Nothing
+    pub two : messageTrouble second ≡ Nothing
 
   pub legal-closes : Legal → (buffer : List ℕ) → length buffer ≡ 16 → closeRefusal first second buffer ≡ numbered success
   legal-closes l buffer sixteen = close-good first second buffer sixteen (l .paired) (l .one) (l .two)
@@ -128,24 +119,19 @@ module _ (first second : Message) where
 
   -- ---- a pair that closes opens again unchanged
 
-  packed-word : (m : Message) → encodedOf m .fits ≡ true → encodedOf m ≡ packed (encodedOf m .word)
-  packed-word m e = λ i. record { fits = e i; word = encodedOf m .word }
-
   closed-words : (v w : ℕ) → Words v w → openWords v w ≡ Pair first second
   unfolding openContents
   closed-words v w x =
       let a = written-read first v (x .one) in
       let b = written-read second w (x .two) in
-      let c = content-good (kindOf first) v first (a .content) in
-      let d = content-good (kindOf second) w second (b .content) in
-      sym (words-by v w (a .label) (b .label)) ∙ sym (in-table (kindOf first) (kindOf second) v w (x .paired)) ∙ rw (c .0, d .0, c .1, d .1)
+      sym (words-by v w (a .label) (b .label)) ∙ sym (in-table (kindOf first) (kindOf second) v w (x .paired)) ∙ rw (a .content, b .content, a .message, b .message)
 
   pub closed-opens : (buffer : List ℕ) → closeRefusal first second buffer ≡ numbered success → openOf (closeImage first second buffer) ≡ Pair first second
   closed-opens buffer e =
       let l = closes-legal buffer e in
-      let v = encodedOf first .word in
-      let w = encodedOf second .word in
-      let x : Words v w = record { paired = l .paired; one = packed-word first (l .one); two = packed-word second (l .two) } in
+      let v = messageWord first in
+      let w = messageWord second in
+      let x : Words v w = record { paired = l .paired; one = (l .one, refl); two = (l .two, refl) } in
       let s = imageOf v w in
       let good : verdictOf s .number ≡ success =
       ap (λ (r : Refusal). r .number) (verdict-image s (length-image v w)) ∙ eqb-true _ _ (verdict-good (bitAt s) ∙ image-good v w) in

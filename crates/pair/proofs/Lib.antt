@@ -2,3 +2,4 @@ pub mod Table
 mod PairLaws
 pub mod ZeroedLaws
 pub mod Demand2
+pub mod FirstTrouble

@@ -1,31 +1,33 @@
 -- What opening and closing answer, check by check. Assumes nothing.
 use mathlib.Core.Path.{_≡_, refl, sym, ap, ap₂, _∙_}
-use mathlib.Core.Bool.{Bool, true, false}
+use mathlib.Core.Bool.{true, false}
 use mathlib.Core.List.{List, [], _∷_, _++_}
 use Prim.Native.Nat.{ℕ}
 use borrow.Author.Tests.{ne-eqb}
 use lib.ListN.{length}
-use Rattle.bits.specs.Tests.{pick}
-use Rattle.refusal.specs.Refusals.{numbered, numberedAt, success, badLength, unknownLabel, badPair, badContent}
-use Rattle.refusal.specs.Checks.{Check, check, checkAt, firstRefusal, onSuccess, answered}
+use Rattle.bits.specs.declared.Trouble.{Trouble}
+use Rattle.bits.specs.declared.Trouble.the-variants.{Nothing}
+use Rattle.refusal.specs.Refusals.{numbered, success, badLength, unknownLabel, badPair}
+use Rattle.refusal.specs.Checks.{Check, check, checkAt, inside, firstRefusal, onSuccess, answered}
 use Rattle.refusal.specs.declared.Refusal.{Refusal}
 use Rattle.frame.specs.Frame.{imageChecks, verdictOf}
 use Rattle.frame.specs.Words.{imageOf}
 use Rattle.message.specs.Messages.{kindOf}
 use Rattle.kind.specs.Labels.{labelledOf, isKnown, kindNamed}
-use Rattle.message.specs.Codec.{contentKept, messageIn, contentOf, encodedOf}
+use Rattle.message.specs.Codec.{contentTrouble, messageIn, contentOf, messageTrouble, messageWord, encodedOf}
 use Rattle.kind.specs.declared.Kind.{Kind}
 use Rattle.message.specs.declared.Message.{Message}
 use Rattle.kind.specs.declared.Labelled.{Labelled}
 use Rattle.kind.specs.declared.Labelled.the-variants.{Known}
-use Rattle.message.specs.declared.Content.the-variants.{Good, Bad}
+use Rattle.message.specs.declared.Content.the-variants as C
+use Rattle.message.specs.declared.Encoded.the-variants as E
 use Rattle.pair.specs.Pairs.{pairOf}
 use Rattle.pair.specs.Opening.{firstWord, secondWord, wordMessage, openRefusal, openOf, wordChecks, openWords, openContents}
 use Rattle.pair.specs.Closing.{closeRefusal, closeImage}
 use Rattle.pair.specs.declared.Opened.{Opened}
 use Rattle.pair.specs.declared.Opened.the-variants.{Pair, Refused}
-use Rattle.bits.proofs.TestLaws.{zero-one}
-use Rattle.refusal.proofs.CheckLaws.{first-more, given, left, answer-refused}
+use Rattle.refusal.proofs.CheckLaws.{first-more, given, left, answer-refused, Refuses}
+use Rattle.message.proofs.CodecLaws.{content-good, content-refused, word-refused}
 
 -- ---- opening: the frame's checks come first, then those of its words
 
@@ -58,8 +60,8 @@ labelChecks a b v w =
     checkAt (isKnown a) unknownLabel 1
     ∷ checkAt (isKnown b) unknownLabel 2
     ∷ check (pairOf (kindNamed a) (kindNamed b)) badPair
-    ∷ checkAt (contentKept (kindNamed a) v) badContent 1
-    ∷ checkAt (contentKept (kindNamed b) w) badContent 2
+    ∷ inside 1 (contentTrouble (kindNamed a) v)
+    ∷ inside 2 (contentTrouble (kindNamed b) w)
     ∷ []
 
 abbrev pub openBy : Labelled → Labelled → ℕ → ℕ → Opened
@@ -76,23 +78,24 @@ pub in-table : (k l : Kind) (v w : ℕ) → pairOf k l ≡ true → openContents
 unfolding openContents
 in-table k l v w e = rw e
 
--- what a content says of its word
-module _ (k : Kind) (v : ℕ) where
-  pub content-good : (m : Message) → contentOf k v ≡ Good m → (contentKept k v ≡ true) × (messageIn k v ≡ m)
-  unfolding contentOf
-  content-good m = go (contentKept k v)
-    where
-      go : (b : Bool) → pick b (Good (messageIn k v)) Bad ≡ Good m → (b ≡ true) × (messageIn k v ≡ m)
-      go true e = (refl, cc)
-      go false e = zero-one (cc)
+-- ---- the contents
 
-  pub content-bad : contentOf k v ≡ Bad → contentKept k v ≡ false
-  unfolding contentOf
-  content-bad = go (contentKept k v)
-    where
-      go : (b : Bool) → pick b (Good (messageIn k v)) Bad ≡ Bad → b ≡ false
-      go true e = zero-one (cc)
-      go false e = refl
+module _ (k l : Kind) (v w : ℕ) where
+  pub first-refused : (r : Refusal) → contentOf 1 k v ≡ C.Refused r → Refused r ≡ openContents k l v w
+  unfolding openContents
+  first-refused r e = let p = content-refused 1 k v r e in sym (answer-refused Refused (Pair (messageIn k v) (messageIn l w)) (p .1 (inside 2 (contentTrouble l w) ∷ [])) (p .0))
+
+  module _ (m : Message) (e : contentOf 1 k v ≡ C.Good m) where
+    pub second-refused : (r : Refusal) → contentOf 2 l w ≡ C.Refused r → Refused r ≡ openContents k l v w
+    unfolding openContents
+    second-refused r f =
+        let one = content-good 1 k v m e in
+        let p = content-refused 2 l w r f in
+        sym (answer-refused Refused _ (ap (λ (t : Trouble). firstRefusal (inside 1 t ∷ inside 2 (contentTrouble l w) ∷ [])) (one .0) ∙ p .1 []) (p .0))
+
+    pub both-read : (n : Message) → contentOf 2 l w ≡ C.Good n → Pair m n ≡ openContents k l v w
+    unfolding openContents
+    both-read n f = let one = content-good 1 k v m e in let two = content-good 2 l w n f in sym (rw (one .0, two .0, one .1, two .1))
 
 -- ---- closing
 
@@ -107,24 +110,24 @@ module _ (first second : Message) (buffer : List ℕ) where
     close-pair p = rw (size, p)
 
     module _ (paired : pairOf (kindOf first) (kindOf second) ≡ true) where
-      pub close-first : encodedOf first .fits ≡ false → closeRefusal first second buffer ≡ numberedAt badContent 1
+      pub close-first : (r : Refusal) → encodedOf 1 first ≡ E.Refused r → (closeRefusal first second buffer ≡ r) × Refuses r
       unfolding closeRefusal
-      close-first e = rw (size, paired, e)
+      close-first r e = let p = word-refused 1 first r e in (rw (size, paired) (p .1 (inside 2 (messageTrouble second) ∷ [])), p .0)
 
-      pub close-second : encodedOf first .fits ≡ true → encodedOf second .fits ≡ false → closeRefusal first second buffer ≡ numberedAt badContent 2
+      pub close-second : messageTrouble first ≡ Nothing → (r : Refusal) → encodedOf 2 second ≡ E.Refused r → (closeRefusal first second buffer ≡ r) × Refuses r
       unfolding closeRefusal
-      close-second e f = rw (size, paired, e, f)
+      close-second one r e = let p = word-refused 2 second r e in (rw (size, paired, one) (p .1 []), p .0)
 
-      pub close-good : encodedOf first .fits ≡ true → encodedOf second .fits ≡ true → closeRefusal first second buffer ≡ numbered success
+      pub close-good : messageTrouble first ≡ Nothing → messageTrouble second ≡ Nothing → closeRefusal first second buffer ≡ numbered success
       unfolding closeRefusal
-      close-good e f = rw (size, paired, e, f)
+      close-good one two = rw (size, paired, one, two)
 
   -- on a refusal the buffer stays
-  pub buffer-stays : (r : Refusal) → closeRefusal first second buffer ≡ r → (r .number ≡ success → ⊥) → buffer ≡ closeImage first second buffer
+  pub buffer-stays : (r : Refusal) → closeRefusal first second buffer ≡ r → Refuses r → buffer ≡ closeImage first second buffer
   unfolding closeImage
   buffer-stays r e h = sym (left (closeRefusal first second buffer) _ buffer (λ q. h (sym (ap (λ (x : Refusal). x .number) e) ∙ q)))
 
   pub buffer-written : closeRefusal first second buffer ≡ numbered success
-      → imageOf (encodedOf first .word) (encodedOf second .word) ≡ closeImage first second buffer
+      → imageOf (messageWord first) (messageWord second) ≡ closeImage first second buffer
   unfolding closeImage
   buffer-written e = sym (given (closeRefusal first second buffer) _ buffer (ap (λ (x : Refusal). x .number) e))

@@ -1,17 +1,18 @@
--- Opening an image (01, 'Orders of checks').
+-- Opening an image (01, 'Orders of checks'; 02, item 4).
 use mathlib.Core.Bool.{Bool}
 use mathlib.Core.List.{List, [], _∷_}
 use Prim.Native.Nat.{ℕ}
 use lib.Dec.{eqb}
 use lib.ListN.{length}
 use Rattle.bits.specs.Octets.{bitAt}
-use Rattle.refusal.specs.Refusals.{numbered, success, badLength, badStart, badMark, badCheck, unknownLabel, badPair, badContent}
-use Rattle.refusal.specs.Checks.{Check, check, checkAt, firstRefusal, answered}
+use Rattle.bits.specs.declared.Trouble.{Trouble}
+use Rattle.refusal.specs.Refusals.{numbered, success, badLength, badStart, badMark, badCheck, unknownLabel, badPair}
+use Rattle.refusal.specs.Checks.{Check, check, checkAt, inside, firstRefusal, answered}
 use Rattle.refusal.specs.declared.Refusal.{Refusal}
 use Rattle.frame.specs.Frame.{startGood, marksGood, checksGood}
 use Rattle.frame.specs.Words.{wordOf}
 use Rattle.kind.specs.Labels.{labelledOf, isKnown, kindNamed}
-use Rattle.message.specs.Codec.{contentKept, messageIn}
+use Rattle.message.specs.Codec.{contentTrouble, messageIn}
 use Rattle.kind.specs.declared.Kind.{Kind}
 use Rattle.message.specs.declared.Message.{Message}
 use Rattle.pair.specs.Pairs.{pairOf}
@@ -28,9 +29,9 @@ isLabelled word = isKnown (labelledOf word)
 abbrev pub wordKind : ℕ → Kind
 wordKind word = kindNamed (labelledOf word)
 
--- the content is as the kind has it
-abbrev pub isContent : ℕ → Bool
-isContent word = contentKept (wordKind word) word
+-- what is first wrong with the content
+abbrev pub wordTrouble : ℕ → Trouble
+wordTrouble word = contentTrouble (wordKind word) word
 
 -- the message
 abbrev pub wordMessage : ℕ → Message
@@ -45,7 +46,7 @@ firstWord image = wordOf (bitAt image) 1
 abbrev pub secondWord : List ℕ → ℕ
 secondWord image = wordOf (bitAt image) 2
 
--- 2, 3, 4, 5, 6 first message, 6 second, 7, 8 first, 8 second
+-- 2, 3, 4, 5, 6 first message, 6 second, 7, 12 to 14 first, 12 to 14 second
 abbrev pub openChecks : List ℕ → List Check
 openChecks image =
     check (eqb (length image) 16) badLength
@@ -55,8 +56,8 @@ openChecks image =
     ∷ checkAt (isLabelled (firstWord image)) unknownLabel 1
     ∷ checkAt (isLabelled (secondWord image)) unknownLabel 2
     ∷ check (pairOf (wordKind (firstWord image)) (wordKind (secondWord image))) badPair
-    ∷ checkAt (isContent (firstWord image)) badContent 1
-    ∷ checkAt (isContent (secondWord image)) badContent 2
+    ∷ inside 1 (wordTrouble (firstWord image))
+    ∷ inside 2 (wordTrouble (secondWord image))
     ∷ []
 
 unfoldable pub openRefusal : List ℕ → Refusal
@@ -66,7 +67,7 @@ openRefusal image = firstRefusal (openChecks image)
 unfoldable pub openOf : List ℕ → Opened
 openOf image = answered Refused (openRefusal image) (Pair (wordMessage (firstWord image)) (wordMessage (secondWord image)))
 
--- 01's number and place of each case
+-- 01's number and place of each case, and 02's bit
 abbrev pub refusalOf : Opened → Refusal
 refusalOf (Pair first second) = numbered success
 refusalOf (Refused r) = r
@@ -79,8 +80,8 @@ wordChecks v w =
     checkAt (isLabelled v) unknownLabel 1
     ∷ checkAt (isLabelled w) unknownLabel 2
     ∷ check (pairOf (wordKind v) (wordKind w)) badPair
-    ∷ checkAt (isContent v) badContent 1
-    ∷ checkAt (isContent w) badContent 2
+    ∷ inside 1 (wordTrouble v)
+    ∷ inside 2 (wordTrouble w)
     ∷ []
 
 unfoldable pub openWords : ℕ → ℕ → Opened
@@ -89,4 +90,4 @@ openWords v w = answered Refused (firstRefusal (wordChecks v w)) (Pair (wordMess
 -- the contents of words of known kinds
 unfoldable pub openContents : Kind → Kind → ℕ → ℕ → Opened
 openContents k l v w =
-    answered Refused (firstRefusal (checkAt (contentKept k v) badContent 1 ∷ checkAt (contentKept l w) badContent 2 ∷ [])) (Pair (messageIn k v) (messageIn l w))
+    answered Refused (firstRefusal (inside 1 (contentTrouble k v) ∷ inside 2 (contentTrouble l w) ∷ [])) (Pair (messageIn k v) (messageIn l w))

@@ -7,6 +7,7 @@ ghost use Rattle.pair.specs.Closing.{Closed};
 use kind::Kind;
 use kind::Labelled;
 use message::Content;
+use message::Encoded;
 use message::Message;
 use refusal::Refusal;
 
@@ -42,7 +43,7 @@ pub enum Opened {
 }
 
 impl Opened {
-    // The answer as a number and a place.
+    // The answer as a number, a place and a bit.
     pub fn refusal(self) -> Refusal
         ensures { λ r. ⌜ r ≡ refusalOf self ⌝ }
     {
@@ -57,13 +58,13 @@ impl Opened {
 fn open_contents(k: Kind, l: Kind, v: u64, w: u64) -> Opened
     ensures { λ r. ⌜ r ≡ openContents k l v w ⌝ }
 {
-    let Content::Good(first) = message::read_content(k, v) else {
-        return Opened::Refused(Refusal::at(refusal::BAD_CONTENT, 1));
-    };
-    let Content::Good(second) = message::read_content(l, w) else {
-        return Opened::Refused(Refusal::at(refusal::BAD_CONTENT, 2));
-    };
-    Opened::Pair(first, second)
+    match message::read_content(1, k, v) {
+        Content::Refused(r) => Opened::Refused(r),
+        Content::Good(first) => match message::read_content(2, l, w) {
+            Content::Refused(r) => Opened::Refused(r),
+            Content::Good(second) => Opened::Pair(first, second),
+        },
+    }
 }
 
 // The words of a good frame.
@@ -82,7 +83,7 @@ fn open_words(v: u64, w: u64) -> Opened
     open_contents(k, l, v, w)
 }
 
-// Opens an image: 2, 3, 4, 5, 6 first message, 6 second, 7, 8 first, 8 second.
+// Opens an image: 2, 3, 4, 5, 6 first message, 6 second, 7, 12 to 14 first, 12 to 14 second.
 pub fn open(image: &[u8]) -> Opened
     ensures { λ r. ⌜ r ≡ openOf (now (image .entry)) ⌝ }
 {
@@ -93,7 +94,7 @@ pub fn open(image: &[u8]) -> Opened
     open_words(frame::word(image, 1), frame::word(image, 2))
 }
 
-// Closes a pair into a buffer of sixteen octets: 2, 7, 8 first, 8 second. On a refusal nothing is written.
+// Closes a pair into a buffer of sixteen octets: 2, 7, 14 and 15 first, 14 and 15 second. On a refusal nothing is written.
 pub fn close(first: Message, second: Message, image: &mut [u8]) -> Refusal
     ensures { λ r. ⌜ Closed first second (now (image .entry)) r (now (image .exit)) ⌝ }
 {
@@ -103,14 +104,14 @@ pub fn close(first: Message, second: Message, image: &mut [u8]) -> Refusal
     if !is_pair(message::kind_of(first), message::kind_of(second)) {
         return Refusal::of(refusal::BAD_PAIR);
     }
-    let v = message::encode(first);
-    if !v.fits {
-        return Refusal::at(refusal::BAD_CONTENT, 1);
+    match message::encode(1, first) {
+        Encoded::Refused(r) => r,
+        Encoded::Word(v) => match message::encode(2, second) {
+            Encoded::Refused(r) => r,
+            Encoded::Word(w) => {
+                frame::put_image(v, w, image);
+                Refusal::of(refusal::SUCCESS)
+            }
+        },
     }
-    let w = message::encode(second);
-    if !w.fits {
-        return Refusal::at(refusal::BAD_CONTENT, 2);
-    }
-    frame::put_image(v.word, w.word, image);
-    Refusal::of(refusal::SUCCESS)
 }

@@ -26,10 +26,11 @@ pub fn first_number(n: u64) {
     io::print_decimal(STDOUT_FILENO, n);
 }
 
-// A refusal's number and place, with no space before them.
+// A refusal's number, place and bit, with no space before them.
 pub fn refusal(r: Refusal) {
     first_number(r.number as u64);
     number(r.place as u64);
+    number(r.bit as u64);
 }
 
 // 64 bits in hexadecimal.

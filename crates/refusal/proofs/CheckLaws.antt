@@ -1,68 +1,182 @@
 -- Laws of checks in order, and of what a refusal leaves. Assumes nothing.
-use mathlib.Core.Path.{_≡_, refl, sym, ap, _∙_}
-use mathlib.Core.Bool.{Bool, true, false}
+use mathlib.Core.Path.{_≡_, refl, sym, ap, ap₂, _∙_}
+use mathlib.Core.Bool.{Bool, true, false, not}
 use mathlib.Core.List.{List, [], _∷_, _++_}
-use Prim.Native.Nat.{_≤_}
+use mathlib.Core.Logic.{_⊎_, inl, inr}
+use Prim.Native.Nat.{ℕ, _≤_}
 use native.Mathlib.Omega.{arith}
-use borrow.Author.Tests.{eq-eqb, ne-eqb, eqb-true, leb-true}
+use borrow.Author.Tests.{eq-eqb, ne-eqb, eqb-true, leb-true, le-leb, lt-leb}
 use lib.Dec.{eqb, leb}
 use Rattle.bits.specs.Tests.{pick, both}
-use Rattle.bits.proofs.TestLaws.{both-true}
-use Rattle.refusal.specs.Refusals.{success, noPosition, numbered}
-use Rattle.refusal.specs.Checks.{Check, firstRefusal, onSuccess, answered}
+use Rattle.bits.specs.declared.Cause.{Cause}
+use Rattle.bits.specs.declared.Cause.the-variants.{Pattern, Spare, Unused, TooWide}
+use Rattle.bits.specs.declared.Trouble.{Trouble}
+use Rattle.bits.specs.declared.Trouble.the-variants.{Nothing, Wrong}
+use Rattle.bits.specs.Trouble.{isNothing}
+use Rattle.bits.proofs.TestLaws.{both-true, clash}
+use Rattle.bits.proofs.LayoutLaws.{nothing-is}
+use Rattle.refusal.specs.Refusals.{success, noPosition, badPattern, spareBit, unusedCode, tooWide, numbered, causeNumber, insideAt, troubled}
+use Rattle.refusal.specs.Checks.{Check, test, inside, isPassed, toldBy, firstRefusal, onSuccess, answered}
 use Rattle.refusal.specs.declared.Refusal.{Refusal}
 
--- ---- a refusal of 01's table: success with place 0, or a number of 1 to 11 with place 0, 1 or 2
+-- ---- a refusal of the table (01, 'Numbers a caller may get back'; 02, item 4)
 
-abbrev isRefusal : Refusal → Bool
-isRefusal r = both (leb 1 (r .number)) (both (leb (r .number) noPosition) (leb (r .place) 2))
+abbrev isFrom : ℕ → ℕ → ℕ → Bool
+isFrom low high n = both (leb low n) (leb n high)
 
+-- a number of 1 to 11 that is not 8, place 0, 1 or 2, and bit 0
+abbrev isPlain : Refusal → Bool
+isPlain r = both (isFrom 1 noPosition (r .number)) (both (not (eqb (r .number) 8)) (both (leb (r .place) 2) (eqb (r .bit) 0)))
+
+-- a number of 12 to 15, message 1 or 2, and a bit of 7 to 49
+abbrev isInside : Refusal → Bool
+isInside r = both (isFrom badPattern tooWide (r .number)) (both (isFrom 1 2 (r .place)) (isFrom 7 49 (r .bit)))
+
+-- success with place 0 and bit 0, or one of these
 abbrev pub ofTable : Refusal → Bool
-ofTable r = pick (eqb (r .number) success) (eqb (r .place) 0) (isRefusal r)
+ofTable r = pick (eqb (r .number) success) (both (eqb (r .place) 0) (eqb (r .bit) 0)) (pick (leb (r .number) noPosition) (isPlain r) (isInside r))
 
 -- every check of a list, if it is not passed, refuses with a number of the table
+abbrev refuses : Check → Bool
+refuses (test passed r) = isPlain r
+refuses (inside place t) = isFrom 1 2 place
+
 abbrev pub allRefuse : List Check → Bool
 allRefuse [] = true
-allRefuse (c ∷ cs) = both (isRefusal (c .refusal)) (allRefuse cs)
+allRefuse (c ∷ cs) = both (refuses c) (allRefuse cs)
 
-refusal-not-success : (r : Refusal) → isRefusal r ≡ true → (r .number ≡ success → ⊥)
-refusal-not-success r e z = let h : 1 ≤ r .number = leb-true 1 (r .number) (both-true e .0) in omega arith
+-- a trouble begins at one of the bits above the label, and so does every trouble of a list of checks
+abbrev pub InMessage : Trouble → Type 0
+InMessage Nothing = Unit {0}
+InMessage (Wrong cause bit) = (7 ≤ bit) × (bit ≤ 49)
 
-refusal-of-table : (r : Refusal) → isRefusal r ≡ true → ofTable r ≡ true
-refusal-of-table r e = ap (λ (t : Bool). pick t (eqb (r .place) 0) (isRefusal r)) (ne-eqb _ _ (refusal-not-success r e)) ∙ e
+abbrev pub AllInMessage : List Check → Type 0
+AllInMessage [] = Unit {0}
+AllInMessage (test passed r ∷ cs) = AllInMessage cs
+AllInMessage (inside place t ∷ cs) = InMessage t × AllInMessage cs
+
+plain-number : (r : Refusal) → isPlain r ≡ true → (1 ≤ r .number) × (r .number ≤ noPosition)
+plain-number r e =
+    let p = both-true (both-true e .0) in
+    (leb-true 1 (r .number) (p .0), leb-true (r .number) noPosition (p .1))
+
+cause-from : (c : Cause) → isFrom badPattern tooWide (causeNumber c) ≡ true
+cause-from Pattern = refl
+cause-from Spare = refl
+cause-from Unused = refl
+cause-from TooWide = refl
+
+cause-number : (c : Cause) → (badPattern ≤ causeNumber c)
+cause-number c = leb-true badPattern (causeNumber c) (both-true (cause-from c) .0)
+
+-- a refusal, and no success
+abbrev pub Refuses : Refusal → Type 0
+Refuses r = r .number ≡ success → ⊥
+
+wrong-refuses : (place : ℕ) (c : Cause) (b : ℕ) → Refuses (insideAt place c b)
+wrong-refuses place c b z = omega (arith, cause-number c)
+
+-- a check that is not passed refuses
+not-success : (c : Check) → refuses c ≡ true → isPassed c ≡ false → Refuses (toldBy c)
+not-success (test passed r) e f z = omega (arith, plain-number r e .0)
+not-success (inside place Nothing) e f z = clash refl f
+not-success (inside place (Wrong c b)) e f z = wrong-refuses place c b z
+
+plain-of-table : (r : Refusal) → isPlain r ≡ true → ofTable r ≡ true
+plain-of-table r e =
+    let n = plain-number r e in
+    let h : r .number ≡ success → ⊥ = λ z. omega (arith, n .0) in
+    ap (λ (t : Bool). pick t (both (eqb (r .place) 0) (eqb (r .bit) 0)) (pick (leb (r .number) noPosition) (isPlain r) (isInside r))) (ne-eqb _ _ h)
+    ∙ ap (λ (t : Bool). pick t (isPlain r) (isInside r)) (le-leb _ _ (n .1)) ∙ e
+
+inside-of-table : (place : ℕ) (c : Cause) (b : ℕ) → isFrom 1 2 place ≡ true → InMessage (Wrong c b) → ofTable (insideAt place c b) ≡ true
+inside-of-table place c b e (low, high) =
+    let g = cause-number c in
+    let h : causeNumber c ≡ success → ⊥ = λ z. omega (arith, g) in
+    rw (ne-eqb _ _ h, lt-leb (causeNumber c) noPosition (omega (arith, g)), cause-from c, e, le-leb 7 b low, le-leb b 49 high)
+
+told-of-table : (c : Check) → refuses c ≡ true → AllInMessage (c ∷ []) → isPassed c ≡ false → ofTable (toldBy c) ≡ true
+told-of-table (test passed r) e m f = plain-of-table r e
+told-of-table (inside place Nothing) e m f = absurd (clash refl f)
+told-of-table (inside place (Wrong c b)) e m f = inside-of-table place c b e (m .0)
 
 -- the first check, and those after it
-heads : (c : Check) (cs : List Check) → allRefuse (c ∷ cs) ≡ true → (isRefusal (c .refusal) ≡ true) × (allRefuse cs ≡ true)
-heads c cs e = both-true {a = isRefusal (c .refusal)} {b = allRefuse cs} e
+heads : (c : Check) (cs : List Check) → allRefuse (c ∷ cs) ≡ true → (refuses c ≡ true) × (allRefuse cs ≡ true)
+heads c cs e = both-true {a = refuses c} {b = allRefuse cs} e
 
-pub first-of-table : (cs : List Check) → allRefuse cs ≡ true → ofTable (firstRefusal cs) ≡ true
-first-of-table [] e = refl
-first-of-table (c ∷ cs) e = go (c .passed) (first-of-table cs (heads c cs e .1))
+bits-of : (c : Check) (cs : List Check) → AllInMessage (c ∷ cs) → AllInMessage (c ∷ []) × AllInMessage cs
+bits-of (test passed r) cs m = (tt, m)
+bits-of (inside place t) cs m = ((m .0, tt), m .1)
+
+pub first-of-table : (cs : List Check) → allRefuse cs ≡ true → AllInMessage cs → ofTable (firstRefusal cs) ≡ true
+first-of-table [] e m = refl
+first-of-table (c ∷ cs) e m = go (isPassed c) refl (first-of-table cs (heads c cs e .1) (bits-of c cs m .1))
   where
-    go : (t : Bool) → ofTable (firstRefusal cs) ≡ true → ofTable (pick t (firstRefusal cs) (c .refusal)) ≡ true
-    go true ih = ih
-    go false ih = refusal-of-table (c .refusal) (heads c cs e .0)
+    go : (t : Bool) → isPassed c ≡ t → ofTable (firstRefusal cs) ≡ true → ofTable (pick t (firstRefusal cs) (toldBy c)) ≡ true
+    go true f ih = ih
+    go false f ih = told-of-table c (heads c cs e .0) (bits-of c cs m .0) f
+
+-- ---- a refusal of 12 to 15 is what is first wrong inside a message, and every check before it is passed
+
+abbrev pub Told : ℕ → Cause → ℕ → List Check → Type 0
+Told place c b [] = ⊥
+Told place c b (test passed r ∷ cs) = (passed ≡ true) × Told place c b cs
+Told place c b (inside p t ∷ cs) = ((p ≡ place) × (t ≡ Wrong c b)) ⊎ ((t ≡ Nothing) × Told place c b cs)
+
+-- no two causes have one number
+abbrev causeOf : ℕ → Cause
+causeOf n = pick (eqb n badPattern) Pattern (pick (eqb n spareBit) Spare (pick (eqb n unusedCode) Unused TooWide))
+
+cause-back : (c : Cause) → causeOf (causeNumber c) ≡ c
+cause-back Pattern = refl
+cause-back Spare = refl
+cause-back Unused = refl
+cause-back TooWide = refl
+
+same-cause : (c d : Cause) → causeNumber c ≡ causeNumber d → c ≡ d
+same-cause c d e = sym (cause-back c) ∙ ap causeOf e ∙ cause-back d
+
+pub first-told : (cs : List Check) → allRefuse cs ≡ true → (place : ℕ) (cause : Cause) (bit : ℕ) → firstRefusal cs ≡ insideAt place cause bit → Told place cause bit cs
+first-told [] e place cause bit f = absurd (omega (arith, ap (λ (r : Refusal). r .number) f, cause-number cause))
+first-told (test true r ∷ cs) e place cause bit f = (refl, first-told cs (heads (test true r) cs e .1) place cause bit f)
+first-told (test false r ∷ cs) e place cause bit f =
+    absurd (omega (arith, ap (λ (r : Refusal). r .number) f, cause-number cause, plain-number r (heads (test false r) cs e .0) .1))
+first-told (inside p Nothing ∷ cs) e place cause bit f = inr (refl, first-told cs (heads (inside p Nothing) cs e .1) place cause bit f)
+first-told (inside p (Wrong c b) ∷ cs) e place cause bit f =
+    inl (ap (λ (r : Refusal). r .place) f, ap₂ Wrong (same-cause c cause (ap (λ (r : Refusal). r .number) f)) (ap (λ (r : Refusal). r .bit) f))
 
 -- ---- success is what comes if every check is passed
 
+abbrev pub Passes : Check → Type 0
+Passes (test passed r) = passed ≡ true
+Passes (inside place t) = t ≡ Nothing
+
 abbrev pub Passed : List Check → Type 0
 Passed [] = Unit {0}
-Passed (c ∷ cs) = (c .passed ≡ true) × Passed cs
+Passed (c ∷ cs) = Passes c × Passed cs
+
+to-passes : (c : Check) → isPassed c ≡ true → Passes c
+to-passes (test passed r) e = e
+to-passes (inside place t) e = nothing-is t e
+
+from-passes : (c : Check) → Passes c → isPassed c ≡ true
+from-passes (test passed r) e = e
+from-passes (inside place t) e = ap isNothing e
 
 pub success-passed : (cs : List Check) → allRefuse cs ≡ true → firstRefusal cs .number ≡ success → Passed cs
 success-passed [] e z = tt
-success-passed (c ∷ cs) e z = go (c .passed) refl z (success-passed cs (heads c cs e .1))
+success-passed (c ∷ cs) e z = go (isPassed c) refl z (success-passed cs (heads c cs e .1))
   where
-    go : (t : Bool) → c .passed ≡ t → pick t (firstRefusal cs) (c .refusal) .number ≡ success
+    go : (t : Bool) → isPassed c ≡ t → pick t (firstRefusal cs) (toldBy c) .number ≡ success
         → (firstRefusal cs .number ≡ success → Passed cs) → Passed (c ∷ cs)
-    go true p q ih = (p, ih q)
-    go false p q ih = absurd (refusal-not-success (c .refusal) (heads c cs e .0) q)
+    go true p q ih = (to-passes c p, ih q)
+    go false p q ih = absurd (not-success c (heads c cs e .0) p q)
 
 pub passed-success : (cs : List Check) → Passed cs → firstRefusal cs ≡ numbered success
 passed-success [] p = refl
-passed-success (c ∷ cs) p = ap (λ (t : Bool). pick t (firstRefusal cs) (c .refusal)) (p .0) ∙ passed-success cs (p .1)
+passed-success (c ∷ cs) p = ap (λ (t : Bool). pick t (firstRefusal cs) (toldBy c)) (from-passes c (p .0)) ∙ passed-success cs (p .1)
 
--- success is number 0 and place 0
+-- success is number 0, place 0 and bit 0
 pub success-whole : (cs : List Check) → allRefuse cs ≡ true → firstRefusal cs .number ≡ success → firstRefusal cs ≡ numbered success
 success-whole cs e z = passed-success cs (success-passed cs e z)
 
@@ -70,13 +184,13 @@ success-whole cs e z = passed-success cs (success-passed cs e z)
 
 pub first-more : (cs ds : List Check) → allRefuse cs ≡ true → firstRefusal (cs ++ ds) ≡ onSuccess (firstRefusal cs) (firstRefusal ds) (firstRefusal cs)
 first-more [] ds e = refl
-first-more (c ∷ cs) ds e = go (c .passed) (first-more cs ds (heads c cs e .1))
+first-more (c ∷ cs) ds e = go (isPassed c) refl (first-more cs ds (heads c cs e .1))
   where
-    go : (t : Bool) → firstRefusal (cs ++ ds) ≡ onSuccess (firstRefusal cs) (firstRefusal ds) (firstRefusal cs)
-        → pick t (firstRefusal (cs ++ ds)) (c .refusal) ≡ onSuccess (pick t (firstRefusal cs) (c .refusal)) (firstRefusal ds) (pick t (firstRefusal cs) (c .refusal))
-    go true ih = ih
-    go false ih =
-        sym (ap (λ (t : Bool). pick t (firstRefusal ds) (c .refusal)) (ne-eqb _ _ (refusal-not-success (c .refusal) (heads c cs e .0))))
+    go : (t : Bool) → isPassed c ≡ t → firstRefusal (cs ++ ds) ≡ onSuccess (firstRefusal cs) (firstRefusal ds) (firstRefusal cs)
+        → pick t (firstRefusal (cs ++ ds)) (toldBy c) ≡ onSuccess (pick t (firstRefusal cs) (toldBy c)) (firstRefusal ds) (pick t (firstRefusal cs) (toldBy c))
+    go true f ih = ih
+    go false f ih =
+        sym (ap (λ (t : Bool). pick t (firstRefusal ds) (toldBy c)) (ne-eqb _ _ (not-success c (heads c cs e .0) f)))
 
 -- ---- what a success gives, and what a refusal leaves
 
@@ -84,12 +198,12 @@ module _ {A : Type 0} (r : Refusal) (new old : A) where
   pub given : r .number ≡ success → onSuccess r new old ≡ new
   given e = ap (λ (t : Bool). pick t new old) (eq-eqb _ _ e)
 
-  pub left : (r .number ≡ success → ⊥) → onSuccess r new old ≡ old
+  pub left : Refuses r → onSuccess r new old ≡ old
   left h = ap (λ (t : Bool). pick t new old) (ne-eqb _ _ h)
 
 -- an answer that is an enum, by its refusal
 module _ {A : Type 0} (refused : Refusal → A) (value : A) where
-  pub answer-refused : {s r : Refusal} → s ≡ r → (r .number ≡ success → ⊥) → answered refused s value ≡ refused r
+  pub answer-refused : {s r : Refusal} → s ≡ r → Refuses r → answered refused s value ≡ refused r
   answer-refused {s} {r} e h = left s value (refused s) (λ q. h (sym (ap (λ (x : Refusal). x .number) e) ∙ q)) ∙ ap refused e
 
   -- an answer that is no refusal is the value, and nothing was refused
@@ -109,18 +223,30 @@ module _ {A : Type 0} (refused : Refusal → A) (value : A) where
       go true f = none ∙ sym (success-whole cs all (eqb-true _ _ f))
       go false f = whole (firstRefusal cs)
 
+-- an answer about the inside of message `place`: it is the value and nothing is wrong, or the refusal, which is passed up whole
+module _ {A : Type 0} (refused : Refusal → A) (value : A) (place : ℕ) where
+  pub inside-wrong : (c : Cause) (b : ℕ) → answered refused (troubled place (Wrong c b)) value ≡ refused (insideAt place c b)
+  inside-wrong c b = answer-refused refused value refl (wrong-refuses place c b)
+
+  pub inside-value : (t : Trouble) (v : A) → ((r : Refusal) → refused r ≡ v → ⊥) → answered refused (troubled place t) value ≡ v → (t ≡ Nothing) × (value ≡ v)
+  inside-value Nothing v h e = (refl, e)
+  inside-value (Wrong c b) v h e = absurd (h (insideAt place c b) (sym (inside-wrong c b) ∙ e))
+
+  pub inside-refused : (t : Trouble) (r : Refusal) → (value ≡ refused r → ⊥) → ((x : Refusal) → refused x ≡ refused r → x ≡ r)
+      → answered refused (troubled place t) value ≡ refused r → Refuses r × ((cs : List Check) → firstRefusal (inside place t ∷ cs) ≡ r)
+  inside-refused Nothing r h same e = absurd (h e)
+  inside-refused (Wrong c b) r h same e =
+      let is : insideAt place c b ≡ r = same (insideAt place c b) (sym (inside-wrong c b) ∙ e) in
+      (λ z. wrong-refuses place c b (ap (λ (x : Refusal). x .number) is ∙ z), λ cs. is)
+
 -- ---- demand 1, of any checks: the refusal is one of the table, and what it leaves
 
--- a refusal, and no success
-abbrev pub Refuses : Refusal → Type 0
-Refuses r = r .number ≡ success → ⊥
-
-module _ (cs : List Check) (all : allRefuse cs ≡ true) where
+module _ (cs : List Check) (all : allRefuse cs ≡ true) (bits : AllInMessage cs) where
   -- of a call that writes a buffer, which is as it was
   pub buffer-left : {A : Type 0} (new old : A) {after : A} {r : Refusal} → r ≡ firstRefusal cs → after ≡ onSuccess (firstRefusal cs) new old
       → (ofTable r ≡ true) × (Refuses r → after ≡ old)
   buffer-left new old e f =
-      (ap ofTable e ∙ first-of-table cs all, λ h. f ∙ left (firstRefusal cs) new old (λ z. h (ap (λ (x : Refusal). x .number) e ∙ z)))
+      (ap ofTable e ∙ first-of-table cs all bits, λ h. f ∙ left (firstRefusal cs) new old (λ z. h (ap (λ (x : Refusal). x .number) e ∙ z)))
 
   -- of a call that answers an enum
   pub refusal-told : {A : Type 0} (refused : Refusal → A) (refusalOf : A → Refusal) (value : A) {r : A} → ((x : Refusal) → refusalOf (refused x) ≡ x)
@@ -128,7 +254,7 @@ module _ (cs : List Check) (all : allRefuse cs ≡ true) where
       → (ofTable (refusalOf r) ≡ true) × ((x : Refusal) → r ≡ refused x → Refuses x)
   refusal-told refused refusalOf value {r} whole none other e =
       let tells = ap refusalOf e ∙ answer-tells refused value refusalOf cs all whole none in
-      (ap ofTable tells ∙ first-of-table cs all, λ x q z. other x (sym (given (firstRefusal cs) value (refused (firstRefusal cs)) (number x q z)) ∙ sym e ∙ q))
+      (ap ofTable tells ∙ first-of-table cs all bits, λ x q z. other x (sym (given (firstRefusal cs) value (refused (firstRefusal cs)) (number x q z)) ∙ sym e ∙ q))
     where
       number : (x : Refusal) → r ≡ refused x → x .number ≡ success → firstRefusal cs .number ≡ success
       number x q z =

@@ -1,7 +1,8 @@
-// The numbers a caller may get back, each by its name (01, 'Numbers a caller may get back').
+// The numbers a caller may get back, each by its name (01, 'Numbers a caller may get back'; 02, item 4).
 
 ghost use mathlib.Core.Path.{_≡_};
-ghost use Rattle.refusal.specs.Refusals.{numbered, numberedAt};
+ghost use Rattle.refusal.specs.Refusals.{numbered, numberedAt, numberedIn, causeNumber, insideAt};
+use bits::Cause;
 
 pub const SUCCESS: u8 = 0;
 
@@ -19,18 +20,27 @@ pub const UNKNOWN_LABEL: u8 = 6;
 
 pub const BAD_PAIR: u8 = 7;
 
-pub const BAD_CONTENT: u8 = 8;
-
 pub const OUT_OF_RANGE: u8 = 9;
 
 pub const NO_FRAME: u8 = 10;
 
 pub const NO_POSITION: u8 = 11;
 
-// The number, and the message or axis that it is about: 1 or 2, else 0. Success is 0 with place 0.
+// What is wrong inside a message.
+pub const BAD_PATTERN: u8 = 12;
+
+pub const SPARE_BIT: u8 = 13;
+
+pub const UNUSED_CODE: u8 = 14;
+
+pub const TOO_WIDE: u8 = 15;
+
+// The number; the message or axis that it is about, 1 or 2, else 0; and of what is wrong inside a message the bit where it begins, else 0. Success
+// is 0 with place and bit 0.
 pub struct Refusal {
     pub number: u8,
     pub place: u8,
+    pub bit: u8,
 }
 
 impl Refusal {
@@ -38,13 +48,46 @@ impl Refusal {
     pub fn of(number: u8) -> Refusal
         ensures { λ r. ⌜ r ≡ numbered number ⌝ }
     {
-        Refusal { number, place: 0 }
+        Refusal {
+            number,
+            place: 0,
+            bit: 0,
+        }
     }
 
     // The number, about one message or axis.
     pub fn at(number: u8, place: u8) -> Refusal
         ensures { λ r. ⌜ r ≡ numberedAt number place ⌝ }
     {
-        Refusal { number, place }
+        Refusal {
+            number,
+            place,
+            bit: 0,
+        }
     }
+
+    // The number of what is wrong inside a message, and the bit where it begins.
+    pub fn inside(number: u8, place: u8, bit: u8) -> Refusal
+        ensures { λ r. ⌜ r ≡ numberedIn number place bit ⌝ }
+    {
+        Refusal { number, place, bit }
+    }
+}
+
+fn number_of(cause: Cause) -> u8
+    ensures { λ r. ⌜ r ≡ causeNumber cause ⌝ }
+{
+    match cause {
+        Cause::Pattern => BAD_PATTERN,
+        Cause::Spare => SPARE_BIT,
+        Cause::Unused => UNUSED_CODE,
+        Cause::TooWide => TOO_WIDE,
+    }
+}
+
+// What is wrong inside message 1 or 2, by its cause.
+pub fn refuse(place: u8, cause: Cause, bit: u8) -> Refusal
+    ensures { λ r. ⌜ r ≡ insideAt place cause bit ⌝ }
+{
+    Refusal::inside(number_of(cause), place, bit)
 }

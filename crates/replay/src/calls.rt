@@ -57,13 +57,16 @@ fn is_silent(heard: Heard) -> bool {
     if heard.refusal.place != 0 {
         return false;
     }
+    if heard.refusal.bit != 0 {
+        return false;
+    }
     if heard.frame {
         return false;
     }
     is_zero(&image)
 }
 
-// at I N P F OCTETS: the level's number from 1, the refusal, whether there is a frame, and the octets.
+// at I N P B F OCTETS: the level's number from 1, the refusal, whether there is a frame, and the octets.
 fn tell_heard(i: usize, heard: Heard) {
     let image = heard.image;
     show::text(b"at");
@@ -205,16 +208,24 @@ fn altitude(line: &[u8]) {
     }
 }
 
-fn is_one_octet(line: &[u8]) -> bool {
-    if parts::count(line) != 2 {
+// Whether a line has so many parts, and behind the first a number each that is an octet.
+fn are_octets(line: &[u8], count: usize) -> bool {
+    if parts::count(line) != count {
         return false;
     }
-    numbers::is_up_to(line, 1, 255)
+    let mut i = 1;
+    while i < count {
+        if !numbers::is_up_to(line, i, 255) {
+            return false;
+        }
+        i += 1;
+    }
+    true
 }
 
 // kind_named LABEL
 fn kind_named(line: &[u8]) {
-    if !is_one_octet(line) {
+    if !are_octets(line, 2) {
         return show::refuse();
     }
     let named = link1::kind_named(numbers::u8_at(line, 1, 0));
@@ -227,7 +238,7 @@ fn kind_named(line: &[u8]) {
 
 // refusal_of NUMBER
 fn refusal_of(line: &[u8]) {
-    if !is_one_octet(line) {
+    if !are_octets(line, 2) {
         return show::refuse();
     }
     show::refusal(Refusal::of(numbers::u8_at(line, 1, 0)));
@@ -235,13 +246,7 @@ fn refusal_of(line: &[u8]) {
 
 // refusal_at NUMBER PLACE
 fn refusal_at(line: &[u8]) {
-    if parts::count(line) != 3 {
-        return show::refuse();
-    }
-    if !numbers::is_up_to(line, 1, 255) {
-        return show::refuse();
-    }
-    if !numbers::is_up_to(line, 2, 255) {
+    if !are_octets(line, 3) {
         return show::refuse();
     }
     let number = numbers::u8_at(line, 1, 0);
@@ -249,7 +254,18 @@ fn refusal_at(line: &[u8]) {
     show::refusal(Refusal::at(number, place));
 }
 
-// numbers: those that a caller may get back, in the order of 01's table.
+// refusal_inside NUMBER PLACE BIT
+fn refusal_inside(line: &[u8]) {
+    if !are_octets(line, 4) {
+        return show::refuse();
+    }
+    let number = numbers::u8_at(line, 1, 0);
+    let place = numbers::u8_at(line, 2, 0);
+    let bit = numbers::u8_at(line, 3, 0);
+    show::refusal(Refusal::inside(number, place, bit));
+}
+
+// numbers: those that a caller may get back, in the order of 01's table as 02 amends it.
 fn tell_numbers(line: &[u8]) {
     if parts::count(line) != 1 {
         return show::refuse();
@@ -262,10 +278,13 @@ fn tell_numbers(line: &[u8]) {
     show::number(link1::BAD_CHECK as u64);
     show::number(link1::UNKNOWN_LABEL as u64);
     show::number(link1::BAD_PAIR as u64);
-    show::number(link1::BAD_CONTENT as u64);
     show::number(link1::OUT_OF_RANGE as u64);
     show::number(link1::NO_FRAME as u64);
     show::number(link1::NO_POSITION as u64);
+    show::number(link1::BAD_PATTERN as u64);
+    show::number(link1::SPARE_BIT as u64);
+    show::number(link1::UNUSED_CODE as u64);
+    show::number(link1::TOO_WIDE as u64);
 }
 
 // ---- messages
@@ -356,8 +375,8 @@ fn shift(line: &[u8]) {
 
 // ---- which call a line says: the words of the calls, and the place of each
 
-const CALLS: [u8; 136] =
-    *b"verdict open hear track_number search track_text send resume close shift kind_of label kind_named altitude refusal_of refusal_at numbers";
+const CALLS: [u8; 151] =
+    *b"verdict open hear track_number search track_text send resume close shift kind_of label kind_named altitude refusal_of refusal_at refusal_inside numbers";
 
 const VERDICT: usize = 0;
 
@@ -391,7 +410,9 @@ const REFUSAL_OF: usize = 14;
 
 const REFUSAL_AT: usize = 15;
 
-const NUMBERS: usize = 16;
+const REFUSAL_INSIDE: usize = 16;
+
+const NUMBERS: usize = 17;
 
 // The part at which a call's octets begin.
 fn octets_from(said: usize) -> usize {
@@ -438,6 +459,7 @@ pub fn call(line: &[u8], space: &mut [u8]) {
         ALTITUDE => altitude(line),
         REFUSAL_OF => refusal_of(line),
         REFUSAL_AT => refusal_at(line),
+        REFUSAL_INSIDE => refusal_inside(line),
         NUMBERS => tell_numbers(line),
         _ => call_octets(said, line, space),
     }

@@ -6,15 +6,18 @@ use borrow.Author.Tests.{eqb-true, eq-eqb}
 use lib.Dec.{eqb}
 use lib.IntN.{ℤ}
 use Rattle.bits.specs.Tests.{pick}
-use Rattle.refusal.specs.Refusals.{success, noPosition, badContent, numbered, numberedAt}
-use Rattle.refusal.specs.Checks.{check, checkAt, firstRefusal, onSuccess, answered}
+use Rattle.bits.specs.declared.Trouble.{Trouble}
+use Rattle.bits.specs.declared.Trouble.the-variants.{Nothing}
+use Rattle.refusal.specs.Refusals.{success, noPosition, numbered}
+use Rattle.refusal.specs.Checks.{check, inside, firstRefusal, onSuccess, answered}
 use Rattle.refusal.specs.declared.Refusal.{Refusal}
 use Rattle.units.specs.Offsets.{sumZ}
 use Rattle.units.specs.Steps.{nearestTo, movedTo}
 use Rattle.units.specs.declared.Feet.{Feet}
 use Rattle.units.specs.declared.LinkSteps.{LinkSteps}
-use Rattle.message.specs.Codec.{encodedOf}
+use Rattle.message.specs.Codec.{messageTrouble, encodedOf}
 use Rattle.message.specs.declared.Message.{Message}
+use Rattle.message.specs.declared.Encoded.the-variants as E
 use Rattle.shift.specs.Positions.{positionOf, isSomewhere, xOf, yOf, placedAt}
 use Rattle.shift.specs.Shift.{shiftRefusal, shiftedOf, listChecks, sumsOf, stepChecks, newPosition, movedPosition, leftAs, finishedOf}
 use Rattle.shift.specs.declared.Position.{Position}
@@ -24,6 +27,7 @@ use Rattle.shift.specs.declared.Sums.the-variants as U
 use Rattle.shift.specs.declared.NewPosition.the-variants as N
 use Rattle.bits.proofs.TestLaws.{zero-one, clash}
 use Rattle.refusal.proofs.CheckLaws.{first-more, given, left, answer-refused, answer-is, success-whole, Refuses}
+use Rattle.message.proofs.CodecLaws.{word-refused}
 
 -- ---- the lists, and then the steps
 
@@ -56,32 +60,36 @@ module _ (x y : ℤ) (xs ys : List ℤ) where
       let at : ℤ → ℤ → Refusal → _ = λ u v r. answered N.Refused r (N.At (record { 0 = u }) (record { 0 = v })) in
       rw (← a, ← b) (sym (ap (at (movedTo x xs) (movedTo y ys)) (moved-by ∙ given (firstRefusal (listChecks xs ys)) _ _ (q .0))))
 
--- ---- a message by its position and the test of its content
+-- ---- a message by its position and what is wrong inside it
 
-abbrev byPosition : Position → Bool → List ℤ → List ℤ → Refusal
-byPosition p fits xs ys =
-    firstRefusal (check (isSomewhere p) noPosition ∷ checkAt fits badContent 1 ∷ (listChecks xs ys ++ stepChecks (movedTo (xOf p) xs) (movedTo (yOf p) ys)))
+abbrev byPosition : Position → Trouble → List ℤ → List ℤ → Refusal
+byPosition p t xs ys =
+    firstRefusal (check (isSomewhere p) noPosition ∷ inside 1 t ∷ (listChecks xs ys ++ stepChecks (movedTo (xOf p) xs) (movedTo (yOf p) ys)))
 
-abbrev shiftedBy : Position → Bool → Message → List ℤ → List ℤ → Shifted
-shiftedBy p fits m xs ys =
-    record { refusal = byPosition p fits xs ys; message = onSuccess (byPosition p fits xs ys) (placedAt m (movedTo (xOf p) xs) (movedTo (yOf p) ys)) m }
+abbrev shiftedBy : Position → Trouble → Message → List ℤ → List ℤ → Shifted
+shiftedBy p t m xs ys =
+    record { refusal = byPosition p t xs ys; message = onSuccess (byPosition p t xs ys) (placedAt m (movedTo (xOf p) xs) (movedTo (yOf p) ys)) m }
 
 module _ (m : Message) (xs ys : List ℤ) where
-  by : {p : Position} {b : Bool} → positionOf m ≡ p → encodedOf m .fits ≡ b → shiftedOf m xs ys ≡ shiftedBy p b m xs ys
+  by : {p : Position} {t : Trouble} → positionOf m ≡ p → messageTrouble m ≡ t → shiftedOf m xs ys ≡ shiftedBy p t m xs ys
   unfolding shiftedOf shiftRefusal
-  by e f = ap₂ (λ (p : Position) (b : Bool). shiftedBy p b m xs ys) e f
+  by e f = ap₂ (λ (p : Position) (t : Trouble). shiftedBy p t m xs ys) e f
 
   pub shifted-nowhere : positionOf m ≡ Nowhere → shiftedOf m xs ys ≡ leftAs m (numbered noPosition)
   shifted-nowhere e = by e refl
 
   module _ (x y : LinkSteps) (e : positionOf m ≡ At x y) where
-    pub shifted-bad : encodedOf m .fits ≡ false → shiftedOf m xs ys ≡ leftAs m (numberedAt badContent 1)
-    shifted-bad f = by e f
+    pub shifted-bad : (r : Refusal) → encodedOf 1 m ≡ E.Refused r → shiftedOf m xs ys ≡ leftAs m r
+    shifted-bad r f =
+        let p = word-refused 1 m r f in
+        let told : byPosition (At x y) (messageTrouble m) xs ys ≡ r = p .1 (listChecks xs ys ++ stepChecks (movedTo (x .0) xs) (movedTo (y .0) ys)) in
+        let new = placedAt m (movedTo (x .0) xs) (movedTo (y .0) ys) in
+        by e refl ∙ ap (λ (s : Refusal). record { refusal = s; message = onSuccess s new m }) told ∙ ap (λ (n : Message). record { refusal = r; message = n }) (left r new m (p .0))
 
     abbrev steps : Refusal
     steps = firstRefusal (listChecks xs ys ++ stepChecks (movedTo (x .0) xs) (movedTo (y .0) ys))
 
-    pub shifted-moved : encodedOf m .fits ≡ true → shiftedOf m xs ys ≡ finishedOf m (movedPosition (x .0) (y .0) xs ys)
+    pub shifted-moved : messageTrouble m ≡ Nothing → shiftedOf m xs ys ≡ finishedOf m (movedPosition (x .0) (y .0) xs ys)
     unfolding movedPosition
     shifted-moved f = by e f ∙ go (eqb (steps .number) success) refl
       where

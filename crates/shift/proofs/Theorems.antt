@@ -1,8 +1,9 @@
--- Laws of the shift, of what the public call answers: the steps are the nearest, the order of offsets does not matter, empty lists change
+-- Laws of the shift, of what the public call answers: the steps are the nearest, the first trouble is told, the order of offsets does not matter, empty lists change
 -- nothing, and a shift can be taken back. Assumes nothing.
-use mathlib.Core.Path.{_≡_, refl, sym, ap, ap₂, _∙_}
+use mathlib.Core.Path.{_≡_, refl, sym, ap, ap₂, subst, _∙_}
 use mathlib.Core.Bool.{Bool, true, false}
 use mathlib.Core.List.{List, [], _∷_, List·Permᴰ}
+use mathlib.Core.Logic.{⊎-elim}
 use Prim.Native.Nat.{ℕ, zero, suc, _^_}
 use lib.ListN.{drop}
 use lib.IntN.{ℤ, pos, negℤ, _+ℤ_, _*ℤ_}
@@ -10,16 +11,20 @@ use lib.Dec.{ltb}
 use lib.Signed.{mag}
 use native.Mathlib.Omega.{arith}
 use borrow.Author.Tests.{ltb-true}
-use Rattle.bits.specs.Tests.{pick, both}
+use Rattle.bits.specs.Tests.{pick}
 use Rattle.bits.specs.Twos.{unsignedOf}
-use Rattle.bits.specs.Layout.{Field, signed, widthOf, Values, allows, fits, join, writeAs}
-use Rattle.refusal.specs.Refusals.{numbered, success}
+use Rattle.bits.specs.Layout.{Field, signed, widthOf, Values, writeAs}
+use Rattle.bits.specs.Trouble.{isNothing, fits}
+use Rattle.bits.specs.Begins.{IsFirst}
+use Rattle.bits.specs.declared.Cause.{Cause}
+use Rattle.bits.specs.declared.Trouble.the-variants.{Nothing, Wrong}
+use Rattle.refusal.specs.Refusals.{numbered, success, insideAt}
 use Rattle.refusal.specs.declared.Refusal.{Refusal}
 use Rattle.units.specs.Offsets.{areOffsets, sumZ}
 use Rattle.units.specs.Steps.{isStep, movedTo}
 use Rattle.units.specs.Nearest.{Nearest, OddMultiple}
-use Rattle.message.specs.Codec.{encodedOf}
-use Rattle.kind.specs.Layouts.{wholeOf}
+use Rattle.message.specs.Codec.{messageTrouble}
+use Rattle.kind.specs.Layouts.{layoutOf}
 use Rattle.message.specs.Messages.{kindOf, partsOf}
 use Rattle.message.specs.declared.Message.{Message}
 use Rattle.message.specs.declared.Message.the-variants as m
@@ -28,8 +33,9 @@ use Rattle.shift.specs.Shift.{newX, newY, shiftChecks, shiftRefusal, shi
 use Rattle.shift.specs.declared.Position.the-variants.{At}
 use Rattle.shift.specs.declared.Shifted.{Shifted}
 use Rattle.bits.proofs.TestLaws.{clash, both-true}
-use Rattle.refusal.proofs.CheckLaws.{Passed, success-passed, passed-success, given}
-use Rattle.message.proofs.RoundTrip.{packed}
+use Rattle.bits.proofs.LayoutLaws.{allows, inField, fits-more, fits-anywhere}
+use Rattle.refusal.proofs.CheckLaws.{Passed, success-passed, passed-success, given, AllInMessage, first-told}
+use Rattle.message.proofs.FirstTrouble.{MisfitsAt, message-first, message-bit}
 use Rattle.units.proofs.Ranges.{mag-step}
 use Rattle.units.proofs.Nearest.{near-nearest}
 use Rattle.units.proofs.Order.{alike}
@@ -107,6 +113,18 @@ shift-nearest m xs ys e =
       y = rw b (near-nearest (pos 750 *ℤ yOf (positionOf m) +ℤ sumZ ys));
     })
 
+-- ---- what is told of the inside of a message (02, item 4): its first trouble
+
+pub shift-bits : (m : Message) (xs ys : List ℤ) → AllInMessage (shiftChecks m xs ys)
+shift-bits m xs ys = (message-bit m, tt)
+
+pub shift-first : (m : Message) (xs ys : List ℤ) (place : ℕ) (c : Cause) (b : ℕ) → shiftedOf m xs ys .refusal ≡ insideAt place c b
+    → (place ≡ 1) × IsFirst (MisfitsAt m) (Wrong c b)
+unfolding shiftedOf shiftRefusal
+shift-first m xs ys place c b e =
+    ⊎-elim (λ p. (sym (p .0), subst (IsFirst (MisfitsAt m)) (p .1) (message-first m))) (λ p. absurd (p .1 .1 .1 .1 .1 .1 .1))
+    (first-told (shiftChecks m xs ys) refl place c b e .1)
+
 -- ---- the order of offsets: lists in any other order
 
 pub any-order : (m : Message) {xs us ys vs : List ℤ} → List·Permᴰ xs us → List·Permᴰ ys vs → shiftedOf m xs ys ≡ shiftedOf m us vs
@@ -115,19 +133,11 @@ any-order m p q = let a = alike p in let b = alike q in rw (a .long, a .good, a 
 
 -- ---- empty lists: a message with a position and legal content is shifted to itself, and the shift succeeds
 
--- the values of a message that can be written fit its layout
-fits-whole : (m : Message) → encodedOf m .fits ≡ true → fits (wholeOf (kindOf m)) (tt, partsOf m) ≡ true
-unfolding encodedOf
-fits-whole m = go (fits (wholeOf (kindOf m)) (tt, partsOf m))
-  where
-    go : (t : Bool) → pick t (packed (join 0 (wholeOf (kindOf m)) (tt, partsOf m))) (record { fits = false; word = 0 }) .fits ≡ true → t ≡ true
-    go true e = refl
-    go false e = e
-
+-- what fits a layout fits its first field and the rest
 fits-parts : (f : Field) (fs : List Field) (vs : Values (f ∷ fs)) → fits (f ∷ fs) vs ≡ true
     → (ltb (writeAs f (vs .0)) (2 ^ widthOf f) ≡ true) × (fits fs (vs .1) ≡ true)
 fits-parts f fs vs e =
-    let p = both-true {a = both (ltb (writeAs f (vs .0)) (2 ^ widthOf f)) (allows f (writeAs f (vs .0)))} {b = fits fs (vs .1)} e in
+    let p = both-true {a = inField f (writeAs f (vs .0))} {b = fits fs (vs .1)} (sym (fits-more f fs vs) ∙ e) in
     (both-true {a = ltb (writeAs f (vs .0)) (2 ^ widthOf f)} {b = allows f (writeAs f (vs .0))} (p .0) .0, p .1)
 
 -- a position that fits its fields is in range
@@ -150,31 +160,33 @@ fits-rest zero fs vs e = e
 fits-rest (suc n) [] vs e = e
 fits-rest (suc n) (f ∷ fs) vs e = fits-rest n fs (vs .1) (fits-parts f fs vs e .1)
 
--- so for a message that can be written
-fits-after : (n : ℕ) (m : Message) → encodedOf m .fits ≡ true → fits (drop n (wholeOf (kindOf m))) (rest n (wholeOf (kindOf m)) (tt, partsOf m)) ≡ true
-fits-after n m f = fits-rest n (wholeOf (kindOf m)) (tt, partsOf m) (fits-whole m f)
+-- so for a message with which nothing is wrong
+fits-after : (n : ℕ) (m : Message) → messageTrouble m ≡ Nothing → fits (drop n (layoutOf (kindOf m))) (rest n (layoutOf (kindOf m)) (partsOf m)) ≡ true
+unfolding messageTrouble
+fits-after n m f =
+    fits-rest n (layoutOf (kindOf m)) (partsOf m) (sym (fits-anywhere 6 (layoutOf (kindOf m)) (partsOf m)) ∙ ap isNothing f)
 
 both-in-range : (x y : ℤ) → fits (signed 12 ∷ signed 12 ∷ []) (x, (y, tt)) ≡ true → (isStep x ≡ true) × (isStep y ≡ true)
 both-in-range x y e =
     let p = fits-parts (signed 12) (signed 12 ∷ []) (x, (y, tt)) e in
     (in-range x (p .0), in-range y (fits-parts (signed 12) [] (y, tt) (p .1) .0))
 
--- X and Y come after the label and two fields of a track, six of a corner
-range : (m : Message) → isSomewhere (positionOf m) ≡ true → encodedOf m .fits ≡ true
+-- X and Y come after two fields of a track, six of a corner
+range : (m : Message) → isSomewhere (positionOf m) ≡ true → messageTrouble m ≡ Nothing
     → (isStep (xOf (positionOf m)) ≡ true) × (isStep (yOf (positionOf m)) ≡ true)
 unfolding rest
 range m.Blank h f = absurd (clash h refl)
 range m.S0 h f = absurd (clash h refl)
 range (m.S3 i) h f = absurd (clash h refl)
-range (m.S4 t) h f = both-in-range (t .x .0) (t .y .0) (fits-after 3 (m.S4 t) f)
-range (m.S4Plus t) h f = both-in-range (t .x .0) (t .y .0) (fits-after 3 (m.S4Plus t) f)
+range (m.S4 t) h f = both-in-range (t .x .0) (t .y .0) (fits-after 2 (m.S4 t) f)
+range (m.S4Plus t) h f = both-in-range (t .x .0) (t .y .0) (fits-after 2 (m.S4Plus t) f)
 range (m.S5 a) h f = absurd (clash h refl)
 range (m.S6 s) h f = absurd (clash h refl)
-range (m.S8 t) h f = both-in-range (t .x .0) (t .y .0) (fits-after 3 (m.S8 t) f)
-range (m.S8Plus t) h f = both-in-range (t .x .0) (t .y .0) (fits-after 3 (m.S8Plus t) f)
-range (m.S9 c) h f = both-in-range (c .x .0) (c .y .0) (fits-after 7 (m.S9 c) f)
+range (m.S8 t) h f = both-in-range (t .x .0) (t .y .0) (fits-after 2 (m.S8 t) f)
+range (m.S8Plus t) h f = both-in-range (t .x .0) (t .y .0) (fits-after 2 (m.S8Plus t) f)
+range (m.S9 c) h f = both-in-range (c .x .0) (c .y .0) (fits-after 6 (m.S9 c) f)
 
-pub nothing-moves : (m : Message) → isSomewhere (positionOf m) ≡ true → encodedOf m .fits ≡ true
+pub nothing-moves : (m : Message) → isSomewhere (positionOf m) ≡ true → messageTrouble m ≡ Nothing
     → shiftedOf m [] [] ≡ record { refusal = numbered success; message = m }
 unfolding shiftedOf shiftRefusal areOffsets
 nothing-moves m h f =

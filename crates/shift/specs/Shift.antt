@@ -1,14 +1,14 @@
--- The shift of a message (01, 'The shift' and 'Orders of checks').
+-- The shift of a message (01, 'The shift' and 'Orders of checks'; 02, item 4).
 use mathlib.Core.List.{List, [], _∷_, _++_}
 use lib.Dec.{leb}
 use lib.IntN.{ℤ}
 use lib.ListN.{length}
-use Rattle.refusal.specs.Refusals.{numbered, success, badLength, badContent, outOfRange, noPosition}
-use Rattle.refusal.specs.Checks.{Check, check, checkAt, firstRefusal, onSuccess, answered}
+use Rattle.refusal.specs.Refusals.{numbered, success, badLength, outOfRange, noPosition}
+use Rattle.refusal.specs.Checks.{Check, check, checkAt, inside, firstRefusal, onSuccess, answered}
 use Rattle.refusal.specs.declared.Refusal.{Refusal}
 use Rattle.units.specs.Offsets.{areOffsets, sumZ}
 use Rattle.units.specs.Steps.{movedTo, isStep}
-use Rattle.message.specs.Codec.{encodedOf}
+use Rattle.message.specs.Codec.{messageTrouble}
 use Rattle.message.specs.declared.Message.{Message}
 use Rattle.shift.specs.Positions.{positionOf, isSomewhere, xOf, yOf, placedAt}
 use Rattle.shift.specs.declared.Sums.{Sums}
@@ -24,11 +24,11 @@ newX m xs = movedTo (xOf (positionOf m)) xs
 abbrev pub newY : Message → List ℤ → ℤ
 newY m ys = movedTo (yOf (positionOf m)) ys
 
--- 11, 8 (place 1), 2 X, 2 Y, 9 on X offsets, 9 on Y offsets, 9 on X result, 9 on Y result
+-- 11, 14 or 15 (place 1), 2 X, 2 Y, 9 on X offsets, 9 on Y offsets, 9 on X result, 9 on Y result
 abbrev pub shiftChecks : Message → List ℤ → List ℤ → List Check
 shiftChecks m xs ys =
     check (isSomewhere (positionOf m)) noPosition
-    ∷ checkAt (encodedOf m .fits) badContent 1
+    ∷ inside 1 (messageTrouble m)
     ∷ checkAt (leb (length xs) 8) badLength 1
     ∷ checkAt (leb (length ys) 8) badLength 2
     ∷ checkAt (areOffsets xs) outOfRange 1

@@ -5,6 +5,7 @@ ghost use Rattle.units.specs.Steps.{nearestTo};
 ghost use Rattle.shift.specs.Positions.{trackPosition, cornerPosition, positionOf, placedTrack, placedCorner, placedAt};
 ghost use Rattle.shift.specs.Shift.{sumsOf, newPosition, movedPosition, leftAs, finishedOf, shiftedOf};
 use message::Corner;
+use message::Encoded;
 use message::Message;
 use message::Track;
 use refusal::Refusal;
@@ -175,16 +176,15 @@ fn finish(m: Message, position: NewPosition) -> Shifted
     }
 }
 
-// Shifts a message: 11, 8, 2 X, 2 Y, 9 on X offsets, 9 on Y offsets, 9 on X result, 9 on Y result.
+// Shifts a message: 11, 14 and 15, 2 X, 2 Y, 9 on X offsets, 9 on Y offsets, 9 on X result, 9 on Y result.
 pub fn shift(m: Message, xs: &[i32], ys: &[i32]) -> Shifted
     ensures { λ r. ⌜ r ≡ shiftedOf m (now (xs .entry)) (now (ys .entry)) ⌝ }
 {
     let Position::At(x, y) = find_position(m) else {
         return refuse(m, Refusal::of(refusal::NO_POSITION));
     };
-    let word = message::encode(m);
-    if !word.fits {
-        return refuse(m, Refusal::at(refusal::BAD_CONTENT, 1));
+    match message::encode(1, m) {
+        Encoded::Refused(r) => refuse(m, r),
+        Encoded::Word(_) => finish(m, move_both(x, y, xs, ys)),
     }
-    finish(m, move_both(x, y, xs, ys))
 }

@@ -1,13 +1,11 @@
--- `bits::pack` meets its contract. The loop's invariant: the values passed fit, and are packed. Assumes nothing.
-use mathlib.Core.Path.{refl, sym, _∙_}
+-- `bits::pack` meets its contract. The loop's invariant: nothing is wrong with the values passed, and they are packed. Assumes nothing.
+use mathlib.Core.Path.{_≡_, refl, sym, _∙_}
 use Prim.Native.Nat.{_-_}
 use native.Mathlib.Omega.{arith}
 use borrow.Author.Needs.{needs}
-use borrow.Author.Tests.{ltb-true, not-true, not-false}
 use lib.ListN.{length}
 use Rattle.bits.specs.Rules.{packedOf}
-use Rattle.bits.proofs.RuleLaws.{Packing, packing-room, packing-more, packing-bad, packing-done}
-use Rattle.bits.proofs.TestLaws.{both-true}
+use Rattle.bits.proofs.RuleLaws.{Packing, packing-room, packing-lt, packing-more, packing-bad, packing-done}
 use Rattle.bits.proofs.pack.Statement.{statement}
 use Rattle.bits.proofs.pack.Tie as tie
 
@@ -32,31 +30,39 @@ mul-value c = search needs
 shared-slice-read-value : tie.Need-shared-slice-read-value Inv-loop μ-loop
 shared-slice-read-value c = search needs
 
-mul-is-fitting : tie.Need-mul-is-fitting Inv-loop μ-loop
-mul-is-fitting c = search needs
+mul-check-value : tie.Need-mul-check-value Inv-loop μ-loop
+mul-check-value c = search needs
 
-shared-slice-read-is-fitting : tie.Need-shared-slice-read-is-fitting Inv-loop μ-loop
-shared-slice-read-is-fitting c = search needs
+shared-slice-read-check-value : tie.Need-shared-slice-read-check-value Inv-loop μ-loop
+shared-slice-read-check-value c = search needs
 
-is-fitting-requires : tie.Need-is-fitting-requires Inv-loop μ-loop
-is-fitting-requires c κs = omega (arith, packing-room (c .before .before .before .before .loop .inv) (omega arith) (omega arith) (omega arith))
+check-value-requires : tie.Need-check-value-requires Inv-loop μ-loop
+check-value-requires c κs = packing-room (c .before .before .before .before .loop .inv) (omega arith) (omega arith) (omega arith)
+
+enum-known-t : tie.Need-enum-known-t Inv-loop μ-loop
+enum-known-t c = search needs
 
 returns : tie.Need-returns Inv-loop μ-loop
 returns c =
-    let at-loop = c .before .before .before .before .before .before in
-    sym (packing-bad (at-loop .loop .inv) (omega arith) (omega arith) (omega arith) (sym (c .before .is-fitting .ensures) ∙ not-true _ (c .if1 .taken)))
+    let v = c .before .before .before in
+    let at-loop = v .before .before .before .before .before in
+    sym (packing-bad (at-loop .loop .inv) (omega arith) (omega arith) (omega arith) (sym (v .check-value .ensures) ∙ c .before .t .given .1))
+
+enum-told : tie.Need-enum-told Inv-loop μ-loop
+enum-told c = search needs
 
 place-requires : tie.Need-place-requires Inv-loop μ-loop
 place-requires c κs =
-    let at-loop = c .before .before .before .before .before .before in (
+    let v = c .before .before in
+    let at-loop = v .before .before .before .before .before in (
       at-loop .loop .inv .low,
-      ltb-true _ _ (both-true (sym (c .before .is-fitting .ensures) ∙ not-false _ (c .if1 .left)) .0),
+      packing-lt (at-loop .loop .inv) (omega arith) (omega arith) (omega arith) (sym (v .check-value .ensures) ∙ c .enum-told .given .1),
       packing-room (at-loop .loop .inv) (omega arith) (omega arith) (omega arith),
     )
 
 add-at : tie.Need-add-at Inv-loop μ-loop
 add-at c =
-    let at-loop = c .before .before .before .before .before .before .before in
+    let at-loop = c .before .before .before .before .before .before .before .before in
     omega (arith, packing-room (at-loop .loop .inv) (omega arith) (omega arith) (omega arith))
 
 add-i : tie.Need-add-i Inv-loop μ-loop
@@ -67,9 +73,11 @@ loop-less c = search needs
 
 loop-again : tie.Need-loop-again Inv-loop μ-loop
 loop-again c =
-    let at-loop = c .before .before .before .before .before .before .before in
+    let t = c .before in
+    let v = t .before .before in
+    let at-loop = v .before .before .before .before .before in
     rw (c .place .ensures .0)
-    (packing-more (at-loop .loop .inv) (omega arith) (omega arith) (omega arith) (sym (c .before .before .is-fitting .ensures) ∙ not-false _ (c .before .if1 .left)))
+    (packing-more (at-loop .loop .inv) (omega arith) (omega arith) (omega arith) (sym (v .check-value .ensures) ∙ t .enum-told .given .1))
 
 returns-2 : tie.Need-returns-2 Inv-loop μ-loop
 returns-2 c = sym (packing-done (c .before .loop .inv) (search needs))
@@ -85,10 +93,12 @@ pack-spec =
     shared-slice-read-width
     mul-value
     shared-slice-read-value
-    mul-is-fitting
-    shared-slice-read-is-fitting
-    is-fitting-requires
+    mul-check-value
+    shared-slice-read-check-value
+    check-value-requires
+    enum-known-t
     returns
+    enum-told
     place-requires
     add-at
     add-i

@@ -26,17 +26,8 @@ put-row-requires c κs = search needs
 enum-known-opened-2 : tie.Need-enum-known-opened-2
 enum-known-opened-2 c = search needs
 
-wide-requires : tie.Need-wide-requires
-wide-requires c κs = search needs
-
-wide-requires-2 : tie.Need-wide-requires-2
-wide-requires-2 c κs = search needs
-
-slice-aggregate-put-row-2 : tie.Need-slice-aggregate-put-row-2
-slice-aggregate-put-row-2 c = search needs
-
-put-row-requires-2 : tie.Need-put-row-requires-2
-put-row-requires-2 c κs = search needs
+put-refusal-requires : tie.Need-put-refusal-requires
+put-refusal-requires c κs = search needs
 
 same-length : tie.Need-same-length
 same-length c = search needs
@@ -57,12 +48,8 @@ same-length-2 c = search needs
 returns-2 : tie.Need-returns-2
 returns-2 c =
     let p = c .before .before in
-    let y = p .before .before .wide2 in
-    let x = p .before .before .before .wide in
-    let o = p .before .before .before .before .before .before in
-    let a = o .before .before .before .args in
-    let same : a .n ∷ x .result ∷ y .result ∷ [] ≡ numbersOf (a .n) (a .opened) = rw (o .opened2 .given .1, x .ensures .0, y .ensures .0) in
-    image-put (a .out .now) (a .at) (a .n) (a .opened) same (omega arith) (omega arith) (p .put-row2 .ensures .0)
+    let o = p .before .before .before in
+    rw (o .opened2 .given .1) (p .put-refusal .ensures)
 
 pub put-image-spec : {M : Type 1} → statement M
 put-image-spec =
@@ -74,10 +61,7 @@ put-image-spec =
     slice-aggregate-put-row
     put-row-requires
     enum-known-opened-2
-    wide-requires
-    wide-requires-2
-    slice-aggregate-put-row-2
-    put-row-requires-2
+    put-refusal-requires
     same-length
     returns
     same-length-2

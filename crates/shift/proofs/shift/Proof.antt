@@ -1,22 +1,17 @@
 -- `shift::shift` meets its contract. Assumes nothing.
 use mathlib.Core.Path.{_≡_, sym, ap, _∙_}
-use borrow.Author.Tests.{not-true, not-false}
-use Rattle.bits.specs.declared.Packed.{Packed}
-use Rattle.message.specs.Codec.{encodedOf}
+use borrow.Author.Needs.{needs}
 use Rattle.shift.specs.Positions.{positionOf}
 use Rattle.shift.specs.Shift.{leftAs, finishedOf}
 use Rattle.shift.specs.declared.Position.the-variants.{At}
+use Rattle.message.proofs.CodecLaws.{word-good}
 use Rattle.shift.proofs.ShiftLaws.{shifted-nowhere, shifted-bad, shifted-moved}
-use borrow.Author.Needs.{needs}
 use Rattle.shift.proofs.shift.Statement.{statement}
 use Rattle.shift.proofs.shift.Tie as tie
 
--- what the tests say of the definition: the message has a position, and its content fits or does not
+-- the message has a position
 placed : (c : tie.After-x) → positionOf (c .before .before .before .args .m) ≡ At (c .x .given .0 .0) (c .x .given .0 .1 .0)
 placed c = sym (c .before .before .find-position .ensures) ∙ c .x .given .1
-
-fitting : (c : tie.After-encode) → c .encode .result .fits ≡ encodedOf (c .before .before .before .before .before .args .m) .fits
-fitting c = ap (λ (p : Packed). p .fits) (c .encode .ensures)
 
 find-position-requires : tie.Need-find-position-requires
 find-position-requires c κs = search needs
@@ -41,17 +36,14 @@ returns c =
 encode-requires : tie.Need-encode-requires
 encode-requires c κs = search needs
 
-at-requires : tie.Need-at-requires
-at-requires c κs = search needs
+enum-known-r : tie.Need-enum-known-r
+enum-known-r c = search needs
 
 refuse-requires-2 : tie.Need-refuse-requires-2
 refuse-requires-2 c κs = search needs
 
-returns-2 : tie.Need-returns-2
-returns-2 c =
-    let f = c .before .before .before .before in
-    c .refuse2 .ensures ∙ ap (leftAs _) (c .before .at .ensures)
-    ∙ sym (shifted-bad _ _ _ _ _ (placed (f .before .before)) (sym (fitting f) ∙ not-true _ (c .before .before .if1 .taken)))
+enum-told-2 : tie.Need-enum-told-2
+enum-told-2 c = search needs
 
 move-both-requires : tie.Need-move-both-requires
 move-both-requires c κs = search needs
@@ -59,12 +51,18 @@ move-both-requires c κs = search needs
 finish-requires : tie.Need-finish-requires
 finish-requires c κs = search needs
 
+returns-2 : tie.Need-returns-2
+returns-2 c =
+    let r = c .before .before in
+    let f = r .before .before in
+    c .refuse2 .ensures ∙ sym (shifted-bad _ _ _ _ _ (placed (f .before .before)) _ (sym (f .encode .ensures) ∙ r .r .given .1))
+
 returns-3 : tie.Need-returns-3
 returns-3 c =
-    let g = c .before .before in
-    let f = g .before .before in
+    let w = c .before .before in
+    let f = w .before .before in
     c .finish .ensures ∙ ap (finishedOf _) (c .before .move-both .ensures)
-    ∙ sym (shifted-moved _ _ _ _ _ (placed (f .before .before)) (sym (fitting f) ∙ not-false _ (g .if1 .left)))
+    ∙ sym (shifted-moved _ _ _ _ _ (placed (f .before .before)) (word-good 1 _ _ (sym (f .encode .ensures) ∙ w .enum-told2 .given .1) .0))
 
 pub shift-spec : {M : Type 1} → statement M
 shift-spec =
@@ -77,9 +75,10 @@ shift-spec =
     refuse-requires
     returns
     encode-requires
-    at-requires
+    enum-known-r
     refuse-requires-2
-    returns-2
+    enum-told-2
     move-both-requires
     finish-requires
+    returns-2
     returns-3)
