@@ -119,7 +119,8 @@ nothing-if false c e = refl
 
 nothing-or : (t u : Trouble) → isNothing (orElse t u) ≡ both (isNothing t) (isNothing u)
 nothing-or Nothing u = refl
-nothing-or (Wrong c b) u = refl
+nothing-or (Wrong c b) Nothing = refl
+nothing-or (Wrong c b) (Wrong d e) = refl
 
 nothing-in : (at : ℕ) (f : Field) (n : ℕ) → isNothing (troubleIn at f n) ≡ allows f n
 nothing-in at (pattern k c) n = nothing-if (eqb n c) Pattern _
@@ -140,11 +141,11 @@ allowed-more at f fs w =
     nothing-or (troubleIn at f n) u ∙ ap (λ (b : Bool). both b (isNothing u)) (nothing-in at f n)
 
 nothing-misfit : (at : ℕ) (f : Field) (n : ℕ) → isNothing (misfitIn at f n) ≡ inField f n
-nothing-misfit at f n = go (ltb n (2 ^ widthOf f))
+nothing-misfit at f n = go (ltb n (2 ^ widthOf f)) _
   where
-    go : (b : Bool) → isNothing (pick b (troubleIn at f n) (Wrong TooWide (at + 1))) ≡ both b (allows f n)
-    go true = nothing-in at f n
-    go false = refl
+    go : (b : Bool) (lowest : ℕ) → isNothing (pick b (troubleIn at f n) (Wrong TooWide lowest)) ≡ both b (allows f n)
+    go true lowest = nothing-in at f n
+    go false lowest = refl
 
 -- a layout, each field taken off the low end
 

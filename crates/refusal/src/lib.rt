@@ -48,22 +48,14 @@ impl Refusal {
     pub fn of(number: u8) -> Refusal
         ensures { λ r. ⌜ r ≡ numbered number ⌝ }
     {
-        Refusal {
-            number,
-            place: 0,
-            bit: 0,
-        }
+        Refusal::at(number, 0)
     }
 
     // The number, about one message or axis.
     pub fn at(number: u8, place: u8) -> Refusal
         ensures { λ r. ⌜ r ≡ numberedAt number place ⌝ }
     {
-        Refusal {
-            number,
-            place,
-            bit: 0,
-        }
+        Refusal::inside(number, place, 0)
     }
 
     // The number of what is wrong inside a message, and the bit where it begins.
