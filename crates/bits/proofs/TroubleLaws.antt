@@ -11,7 +11,7 @@ use lib.Dec.{T, eqb, ltb}
 use lib.Pow.{pow-pos, pow-mono}
 use Rattle.bits.specs.Tests.{pick}
 use Rattle.bits.specs.Numbers.{fieldOf}
-use Rattle.bits.specs.Layout.{Field, pattern, spare, number, code, flag, signed, widthOf, Values, writeAs}
+use Rattle.bits.specs.Layout.{Field, pattern, spare, number, code, flag, signed, widthOf, Value, Values, writeAs}
 use Rattle.bits.specs.Trouble.{noneOf, orElse, agreeing, differing, troubleIn, misfitIn, trouble, misfit}
 use Rattle.bits.specs.Rules.{widthsOf, total}
 use Rattle.bits.specs.Begins.{Differs, BeginsIn, Begins, MisfitsIn, Misfits, IsFirst}
@@ -19,7 +19,7 @@ use Rattle.bits.specs.declared.Cause.{Cause}
 use Rattle.bits.specs.declared.Cause.the-variants.{Pattern, Spare, Unused, TooWide}
 use Rattle.bits.specs.declared.Trouble.{Trouble}
 use Rattle.bits.specs.declared.Trouble.the-variants.{Nothing, Wrong}
-use Rattle.bits.proofs.TestLaws.{by-lt, clash}
+use Rattle.bits.proofs.TestLaws.{by-lt, clash, zero-one}
 use Rattle.bits.proofs.LayoutLaws.{isSound, areSound, has-bit, sayable, pattern-short, first-sound, rest-sound}
 use Rattle.bits.proofs.LowestLaws.{agreeing-lowest}
 
@@ -142,6 +142,33 @@ misfit-first at (f ∷ fs) vs t =
     (misfits-first at f n (first-sound f fs t)) (misfit-first (at + widthOf f) fs (vs .1) (rest-sound f fs t))
     (λ c b p. omega (arith, in-place at f n (first-sound f fs t) c b p .1))
     (λ c b p. misfits-in (at + widthOf f) fs (vs .1) (rest-sound f fs t) c b p .0)
+
+-- ---- which causes: no bits of a word are too wide, and no values break a pattern or set a spare bit
+
+narrow-in : (at : ℕ) (f : Field) (n b : ℕ) → BeginsIn at f n TooWide b → ⊥
+narrow-in at (pattern k x) n b p = let e = p .1 in zero-one (cc)
+narrow-in at (spare k) n b p = let e = p .1 in zero-one (cc)
+narrow-in at (number k) n b p = p
+narrow-in at (code k unused) n b p = let e = p .0 in zero-one (cc)
+narrow-in at flag n b p = p
+narrow-in at (signed k) n b p = p
+
+pub begins-narrow : (at : ℕ) (fs : List Field) (word b : ℕ) → Begins at fs word TooWide b → ⊥
+begins-narrow at [] word b = λ p. let e = p .0 in zero-one (cc)
+begins-narrow at (f ∷ fs) word b = ⊎-elim (narrow-in at f (fieldOf word at (widthOf f)) b) (begins-narrow (at + widthOf f) fs word b)
+
+value-in : (at : ℕ) (f : Field) (v : Value f) (c : Cause) (b : ℕ) → BeginsIn at f (writeAs f v) c b → c ≡ Unused
+value-in at (pattern k x) v c b p = absurd (p .3 refl)
+value-in at (spare k) v c b p = absurd (p .3 refl)
+value-in at (number k) v c b p = absurd p
+value-in at (code k unused) v c b p = p .0
+value-in at flag v c b p = absurd p
+value-in at (signed k) v c b p = absurd p
+
+pub misfits-value : (at : ℕ) (fs : List Field) (vs : Values fs) (c : Cause) (b : ℕ) → Misfits at fs vs c b → (c ≡ Unused) ⊎ (c ≡ TooWide)
+misfits-value at [] vs c b = λ p. absurd p
+misfits-value at (f ∷ fs) vs c b =
+    ⊎-elim (⊎-elim (λ p. inr (p .0)) (λ p. inl (value-in at f (vs .0) c b (p .1)))) (misfits-value (at + widthOf f) fs (vs .1) c b)
 
 -- ---- one answer
 

@@ -51,6 +51,10 @@ use Rattle.kind.proofs.kind_named.Reads as kind-named
 use Rattle.pair.proofs.open.Reads as open-call
 use Rattle.pair.proofs.close.Reads as close
 use Rattle.shift.proofs.shift.Reads as shift
+-- what 12 to 15 tell (02, item 4): the first message that has a trouble, and of its troubles the cause and the bit of the first; opening never tells
+-- 15, closing neither 12 nor 13
+pub use Rattle.pair.proofs.FirstTrouble.{open-first, close-first, open-not-wide, close-value}
+pub use Rattle.shift.proofs.Theorems.{shift-first}
 
 -- `ofTable r` is: number 0 with place 0 and bit 0; a number of 1 to 7 or 9 to 11 with a place of 0, 1 or 2 and bit 0; or a number of 12 to 15
 -- with place 1 or 2 and a bit of 7 to 49. `Refuses r`: the number is not 0

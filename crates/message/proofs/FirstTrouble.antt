@@ -2,7 +2,7 @@
 -- bit, said of every field and without going up the layout (`Begins`, `Misfits`, `IsFirst`: bits/specs/Begins.antt); the bit is one of 7 to 49; and
 -- where nothing is told, no trouble begins. Assumes nothing.
 use mathlib.Core.Path.{_≡_, sym, subst}
-use Prim.Native.Nat.{ℕ, _+_, _^_, _≤_, _<_}
+use Prim.Native.Nat.{ℕ, _+_, _^_, _<_}
 use native.Mathlib.Omega.{arith}
 use Rattle.bits.specs.Begins.{Begins, Misfits, IsFirst}
 use Rattle.bits.specs.Rules.{widthsOf, total}
@@ -14,7 +14,7 @@ use Rattle.kind.specs.declared.Kind.{Kind}
 use Rattle.message.specs.Messages.{kindOf, partsOf}
 use Rattle.message.specs.Codec.{contentTrouble, messageTrouble}
 use Rattle.message.specs.declared.Message.{Message}
-use Rattle.bits.proofs.TroubleLaws.{trouble-first, misfit-first, begins-above, begins-below, misfits-in, OneCause, begins-cause, misfits-cause}
+use Rattle.bits.proofs.TroubleLaws.{trouble-first, misfit-first, begins-above, begins-below, misfits-in, begins-cause, misfits-cause, first-one}
 use Rattle.refusal.proofs.CheckLaws.{InMessage}
 use Rattle.kind.proofs.TableLaws.{wide, sound}
 
@@ -28,9 +28,9 @@ module _ (k : Kind) (word : ℕ) where
   pub content-first : IsFirst BeginsAt (contentTrouble k word)
   content-first = trouble-first 6 (layoutOf k) word (sound k)
 
-  -- at one bit one cause begins, so there is one first trouble
-  pub content-cause : OneCause BeginsAt
-  content-cause = begins-cause 6 (layoutOf k) word (sound k)
+  -- and no other is first
+  pub content-only : (t : Trouble) → IsFirst BeginsAt t → t ≡ contentTrouble k word
+  content-only t f = first-one BeginsAt t (contentTrouble k word) (begins-cause 6 (layoutOf k) word (sound k)) f content-first
 
   pub content-bit : word < 2 ^ 49 → InMessage (contentTrouble k word)
   content-bit short = go (contentTrouble k word) content-first
@@ -54,8 +54,9 @@ module _ (msg : Message) where
   unfolding messageTrouble
   message-first = misfit-first 6 (layoutOf (kindOf msg)) (partsOf msg) (sound (kindOf msg))
 
-  pub message-cause : OneCause MisfitsAt
-  message-cause = misfits-cause 6 (layoutOf (kindOf msg)) (partsOf msg) (sound (kindOf msg))
+  pub message-only : (t : Trouble) → IsFirst MisfitsAt t → t ≡ messageTrouble msg
+  message-only t f =
+      first-one MisfitsAt t (messageTrouble msg) (misfits-cause 6 (layoutOf (kindOf msg)) (partsOf msg) (sound (kindOf msg))) f message-first
 
   pub message-bit : InMessage (messageTrouble msg)
   message-bit = go (messageTrouble msg) message-first

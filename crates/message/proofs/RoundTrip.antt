@@ -13,7 +13,7 @@ use lib.Pow.{split as split-pow}
 use Rattle.bits.specs.Tests.{pick, both}
 use Rattle.bits.specs.Numbers.{numOf, fieldOf}
 use Rattle.bits.specs.Layout.{Field, pattern, widthOf, Values, split, join}
-use Rattle.bits.specs.Trouble.{isNothing, trouble, misfit, allowed, fits}
+use Rattle.bits.specs.Trouble.{isNothing, misfit, allowed, fits}
 use Rattle.bits.specs.Rules.{widthsOf, total}
 use Rattle.bits.specs.declared.Trouble.the-variants.{Nothing}
 use Rattle.kind.specs.Layouts.{labelOf, layoutOf, wholeOf, allKinds, iffLayout}

@@ -7,11 +7,14 @@ use Prim.Native.Nat.{ℕ, _+_, _^_, _<_}
 use Rattle.bits.specs.Octets.{bitAt}
 use Rattle.bits.specs.Begins.{IsFirst}
 use Rattle.bits.specs.declared.Cause.{Cause}
+use Rattle.bits.specs.declared.Cause.the-variants.{Unused, TooWide}
 use Rattle.bits.specs.declared.Trouble.{Trouble}
 use Rattle.bits.specs.declared.Trouble.the-variants.{Nothing, Wrong}
 use Rattle.refusal.specs.Refusals.{insideAt}
 use Rattle.refusal.specs.Checks.{inside}
 use Rattle.frame.specs.Words.{placeOf, wordOf}
+use Rattle.kind.specs.Layouts.{layoutOf}
+use Rattle.message.specs.Messages.{kindOf, partsOf}
 use Rattle.message.specs.Codec.{messageTrouble}
 use Rattle.message.specs.declared.Message.{Message}
 use Rattle.pair.specs.Opening.{wordKind, wordMessage, wordTrouble, firstWord, secondWord, openChecks, openRefusal, openOf, refusalOf}
@@ -19,6 +22,7 @@ use Rattle.pair.specs.Closing.{closeChecks, closeRefusal}
 use Rattle.pair.specs.declared.Opened.the-variants.{Pair, Refused}
 use Rattle.bits.proofs.NumberLaws.{num-lt}
 use Rattle.bits.proofs.OctetLaws.{bit-lt}
+use Rattle.bits.proofs.TroubleLaws.{begins-narrow, misfits-value}
 use Rattle.refusal.proofs.CheckLaws.{InMessage, AllInMessage, Told, first-told, answer-tells}
 use Rattle.message.proofs.FirstTrouble.{BeginsAt, content-first, content-bit, MisfitsAt, message-first, message-bit}
 
@@ -59,6 +63,14 @@ module _ (image : List ℕ) where
       two-told (BeginsInside v) (BeginsInside w) (wordTrouble v) (wordTrouble w) (content-first (wordKind v) v) (content-first (wordKind w) w) place c b
       (first-told (openChecks image) refl place c b (sym tells ∙ ap refusalOf e) .1 .1 .1 .1 .1 .1 .1)
 
+  -- opening tells 12, 13 or 14
+  pub open-not-wide : (place b : ℕ) → openOf image ≡ Refused (insideAt place TooWide b) → ⊥
+  open-not-wide place b e =
+      ⊎-elim (λ p. narrow (firstWord image) (p .1 .0)) (λ p. narrow (secondWord image) (p .2 .0)) (open-first place TooWide b e)
+    where
+      narrow : (word : ℕ) → BeginsInside word TooWide b → ⊥
+      narrow word = begins-narrow 6 (layoutOf (wordKind word)) word b
+
 -- ---- closing
 
 module _ (first second : Message) (buffer : List ℕ) where
@@ -71,3 +83,10 @@ module _ (first second : Message) (buffer : List ℕ) where
   close-first place c b e =
       two-told (MisfitsAt first) (MisfitsAt second) (messageTrouble first) (messageTrouble second) (message-first first) (message-first second) place c b
       (first-told (closeChecks first second buffer) refl place c b e .1 .1)
+
+  -- closing tells 14 or 15
+  pub close-value : (place : ℕ) (c : Cause) (b : ℕ) → closeRefusal first second buffer ≡ insideAt place c b → (c ≡ Unused) ⊎ (c ≡ TooWide)
+  close-value place c b e = ⊎-elim (λ p. value first (p .1 .0)) (λ p. value second (p .2 .0)) (close-first place c b e)
+    where
+      value : (m : Message) → MisfitsAt m c b → (c ≡ Unused) ⊎ (c ≡ TooWide)
+      value m = misfits-value 6 (layoutOf (kindOf m)) (partsOf m) c b

@@ -1,5 +1,5 @@
 -- `bits::find_trouble` meets its contract. The loop's invariant: nothing is wrong with the fields passed. Assumes nothing.
-use mathlib.Core.Path.{_≡_, refl, sym, _∙_}
+use mathlib.Core.Path.{refl, sym, _∙_}
 use Prim.Native.Nat.{_-_}
 use native.Mathlib.Omega.{arith}
 use borrow.Author.Needs.{needs}

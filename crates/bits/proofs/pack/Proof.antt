@@ -1,5 +1,5 @@
 -- `bits::pack` meets its contract. The loop's invariant: nothing is wrong with the values passed, and they are packed. Assumes nothing.
-use mathlib.Core.Path.{_≡_, refl, sym, _∙_}
+use mathlib.Core.Path.{refl, sym, _∙_}
 use Prim.Native.Nat.{_-_}
 use native.Mathlib.Omega.{arith}
 use borrow.Author.Needs.{needs}

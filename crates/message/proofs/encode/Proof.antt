@@ -1,5 +1,5 @@
 -- `message::encode` meets its contract. Assumes nothing.
-use mathlib.Core.Path.{_≡_, sym, ap, _∙_}
+use mathlib.Core.Path.{sym, ap, _∙_}
 use borrow.Author.Needs.{needs}
 use Rattle.message.specs.Codec.{messageTrouble, messageWord}
 use Rattle.message.specs.declared.Encoded.the-variants.{Word, Refused}

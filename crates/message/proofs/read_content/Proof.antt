@@ -1,5 +1,5 @@
 -- `message::read_content` meets its contract. Assumes nothing.
-use mathlib.Core.Path.{_≡_, sym, ap, _∙_}
+use mathlib.Core.Path.{sym, ap, _∙_}
 use borrow.Author.Needs.{needs}
 use Rattle.message.specs.declared.Content.the-variants.{Good, Refused}
 use Rattle.message.proofs.CodecLaws.{content-right, content-wrong}
