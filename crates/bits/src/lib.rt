@@ -142,6 +142,7 @@ fn check_rule(at: u32, rule: u64, n: u64) -> Trouble
     if SPARE <= rule {
         return compare(Cause::Spare, at, n, 0);
     }
+    // a rule names no code above 63
     if 63 < n {
         return Trouble::Nothing;
     }
@@ -178,6 +179,7 @@ pub fn find_trouble(word: u64, low: u32, widths: &[u32], rules: &[u64]) -> Troub
         at += width;
         i += 1;
     }
+    // a message has no bit above its layout
     if word >> at == 0 {
         return Trouble::Nothing;
     }
