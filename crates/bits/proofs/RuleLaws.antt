@@ -76,11 +76,11 @@ ruled-layout at (f ∷ fs) word t =
     (ruled-layout (at + widthOf f) fs word (rest-sound f fs t))
 
 misfit-field : (at : ℕ) (f : Field) (n : ℕ) → T (isSayable f) → ruleMisfit at (widthOf f) (ruleOf f) n ≡ misfitIn at f n
-misfit-field at f n t = go (ltb n (2 ^ widthOf f)) refl
+misfit-field at f n t = go (ltb n (2 ^ widthOf f)) _ refl
   where
-    go : (b : Bool) → ltb n (2 ^ widthOf f) ≡ b → pick b (ruleTrouble at (ruleOf f) n) (Wrong TooWide (at + 1)) ≡ pick b (troubleIn at f n) (Wrong TooWide (at + 1))
-    go true e = rule-field at f n t (ltb-true _ _ e)
-    go false e = refl
+    go : (b : Bool) (lowest : ℕ) → ltb n (2 ^ widthOf f) ≡ b → pick b (ruleTrouble at (ruleOf f) n) (Wrong TooWide lowest) ≡ pick b (troubleIn at f n) (Wrong TooWide lowest)
+    go true lowest e = rule-field at f n t (ltb-true _ _ e)
+    go false lowest e = refl
 
 pub fitting-layout : (at : ℕ) (fs : List Field) (vs : Values fs) → T (areSound fs) → fitting at (widthsOf fs) (rulesOf fs) (rawOf fs vs) ≡ misfit at fs vs
 fitting-layout at [] vs t = refl
@@ -143,11 +143,11 @@ pub record Packing (p : Packed) (word : ℕ) (ws rs ns : List ℕ) (at i : ℕ) 
 
 -- a number with which nothing is wrong is not too wide
 misfit-lt : (at w r n : ℕ) → ruleMisfit at w r n ≡ Nothing → n < 2 ^ w
-misfit-lt at w r n = go (ltb n (2 ^ w)) refl
+misfit-lt at w r n = go (ltb n (2 ^ w)) _ refl
   where
-    go : (b : Bool) → ltb n (2 ^ w) ≡ b → pick b (ruleTrouble at r n) (Wrong TooWide (at + 1)) ≡ Nothing → n < 2 ^ w
-    go true q e = ltb-true _ _ q
-    go false q e = zero-one (cc)
+    go : (b : Bool) (lowest : ℕ) → ltb n (2 ^ w) ≡ b → pick b (ruleTrouble at r n) (Wrong TooWide lowest) ≡ Nothing → n < 2 ^ w
+    go true lowest q e = ltb-true _ _ q
+    go false lowest q e = zero-one (cc)
 
 module _ {p : Packed} {word : ℕ} {ws rs ns : List ℕ} {at i : ℕ} (s : Packing p word ws rs ns at i) (lw : i < length ws) (lr : i < length rs) (ln : i < length ns) where
   pub packing-room : at + getD ws i 0 < 64
