@@ -19,7 +19,7 @@ pub record Lowest (n x i : ℕ) : Type 0 where
   pub apart : n / 2 ^ i % 2 ≡ x / 2 ^ i % 2 → ⊥
   pub below : (j : ℕ) → j < i → n / 2 ^ j % 2 ≡ x / 2 ^ j % 2
 
-pub lowest-one : {n x i j : ℕ} → Lowest n x i → Lowest n x j → i ≡ j
+lowest-one : {n x i j : ℕ} → Lowest n x i → Lowest n x j → i ≡ j
 lowest-one {i = i} {j = j} a b =
     by-lt i j (λ l. absurd (a .apart (b .below i l)))
     (λ g. by-lt j i (λ l. absurd (b .apart (a .below j l))) (λ h. omega arith))

@@ -82,7 +82,7 @@ misfit-field at f n t = go (ltb n (2 ^ widthOf f)) _ refl
     go true lowest e = rule-field at f n t (ltb-true _ _ e)
     go false lowest e = refl
 
-pub fitting-layout : (at : ℕ) (fs : List Field) (vs : Values fs) → T (areSound fs) → fitting at (widthsOf fs) (rulesOf fs) (rawOf fs vs) ≡ misfit at fs vs
+fitting-layout : (at : ℕ) (fs : List Field) (vs : Values fs) → T (areSound fs) → fitting at (widthsOf fs) (rulesOf fs) (rawOf fs vs) ≡ misfit at fs vs
 fitting-layout at [] vs t = refl
 fitting-layout at (f ∷ fs) vs t =
     ap₂ orElse (misfit-field at f (writeAs f (vs .0)) (sayable f (first-sound f fs t)))

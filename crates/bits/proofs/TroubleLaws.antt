@@ -25,9 +25,9 @@ use Rattle.bits.proofs.LowestLaws.{agreeing-lowest}
 
 -- ---- first of two
 
--- the troubles of P all begin at or below m + 1, those of Q above m
+-- the troubles of P all begin at bit m or below, those of Q above it
 or-first : (P Q : Cause → ℕ → Type 0) (m : ℕ) (t u : Trouble) → IsFirst P t → IsFirst Q u
-    → ((c : Cause) (b : ℕ) → P c b → b ≤ m + 1) → ((c : Cause) (b : ℕ) → Q c b → m < b)
+    → ((c : Cause) (b : ℕ) → P c b → b ≤ m) → ((c : Cause) (b : ℕ) → Q c b → m < b)
     → IsFirst (λ c b. P c b ⊎ Q c b) (orElse t u)
 or-first P Q m Nothing Nothing p q l h = λ c b. ⊎-elim (p c b) (q c b)
 or-first P Q m Nothing (Wrong c b) p q l h = (inr (q .0), λ d e. ⊎-elim (λ x. absurd (p d e x)) (q .1 d e))
@@ -123,7 +123,7 @@ trouble-first at (f ∷ fs) word t =
     let n : ℕ = fieldOf word at (widthOf f) in
     or-first (BeginsIn at f n) (Begins (at + widthOf f) fs word) (at + widthOf f) (troubleIn at f n) (trouble (at + widthOf f) fs word)
     (field-first at f n (first-sound f fs t) (mod-lt _ (pow-pos (widthOf f)))) (trouble-first (at + widthOf f) fs word (rest-sound f fs t))
-    (λ c b p. omega (arith, in-field at f n (first-sound f fs t) (mod-lt _ (pow-pos (widthOf f))) c b p .1))
+    (λ c b p. in-field at f n (first-sound f fs t) (mod-lt _ (pow-pos (widthOf f))) c b p .1)
     (begins-above (at + widthOf f) fs word (rest-sound f fs t))
 
 pub misfits-in : (at : ℕ) (fs : List Field) (vs : Values fs) → T (areSound fs) → (c : Cause) (b : ℕ) → Misfits at fs vs c b
@@ -140,7 +140,7 @@ misfit-first at (f ∷ fs) vs t =
     let n : ℕ = writeAs f (vs .0) in
     or-first (MisfitsIn at f n) (Misfits (at + widthOf f) fs (vs .1)) (at + widthOf f) (misfitIn at f n) (misfit (at + widthOf f) fs (vs .1))
     (misfits-first at f n (first-sound f fs t)) (misfit-first (at + widthOf f) fs (vs .1) (rest-sound f fs t))
-    (λ c b p. omega (arith, in-place at f n (first-sound f fs t) c b p .1))
+    (λ c b p. in-place at f n (first-sound f fs t) c b p .1)
     (λ c b p. misfits-in (at + widthOf f) fs (vs .1) (rest-sound f fs t) c b p .0)
 
 -- ---- which causes: no bits of a word are too wide, and no values break a pattern or set a spare bit
