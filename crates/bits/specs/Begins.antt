@@ -1,4 +1,4 @@
--- Where troubles begin, said of every bit and without going up the layout; and what it means to tell the first.
+-- Where troubles begin (02, item 4), said of every bit and without going up the layout; and what it means that the lowest bit wins.
 use mathlib.Core.Bool.{false}
 use mathlib.Core.List.{List, [], _∷_}
 use mathlib.Core.Logic.{_⊎_}

@@ -1,5 +1,5 @@
--- What is first wrong with a word, or with values, under any layout: a cause, and the bit where it begins. Bits are counted from 1: the bit of
--- weight 2 ^ n is bit n + 1.
+-- What is first wrong with a word, or with values, under any layout (02, item 4): 'the cause and the lowest bit number where the trouble begins;
+-- for a field that is its lowest bit. If there are several, the lowest bit wins.' Bits are counted from 1: the bit of weight 2 ^ n is bit n + 1.
 use mathlib.Core.Bool.{Bool, true, false, not}
 use mathlib.Core.List.{List, [], _∷_}
 use Prim.Native.Nat.{ℕ, zero, suc, _+_, _/_, _%_, _^_}

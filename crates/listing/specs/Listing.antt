@@ -3,8 +3,8 @@ use Prim.Native.Nat.{ℕ, zero, suc, _*_, _/_, _%_}
 use mathlib.Core.List.{List, [], _∷_, _++_}
 use lib.ListN.{length, take, drop}
 use mathlib.Core.Bool.{Bool}
-use lib.Dec.{leb, ltb}
-use Rattle.bits.specs.Tests.{pick, both}
+use lib.Dec.{ltb}
+use Rattle.bits.specs.Tests.{pick, isBetween}
 use Rattle.refusal.specs.Refusals.{success, badPattern, tooWide}
 use Rattle.kind.specs.Layouts.{labelOf}
 use Rattle.message.specs.Messages.{kindOf}
@@ -19,7 +19,7 @@ header = octets "LINK1\n"
 
 -- the bit is 'a fourth number for these refusals only', 12 to 15 (02, item 4)
 abbrev pub hasBit : ℕ → Bool
-hasBit number = both (leb badPattern number) (leb number tooWide)
+hasBit number = isBetween badPattern tooWide number
 
 -- 'per image its number from 1 and, if opened, 0 and both labels, else the refusal and place'
 abbrev pub numbersOf : ℕ → Opened → List ℕ

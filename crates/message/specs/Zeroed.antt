@@ -3,13 +3,9 @@
 use mathlib.Core.Path.{_≡_}
 use mathlib.Core.Bool.{Bool, true, false}
 use Prim.Native.Nat.{ℕ, _+_, _≤_}
-use lib.Dec.{eqb, leb}
-use Rattle.bits.specs.Tests.{pick, both}
+use lib.Dec.{eqb}
+use Rattle.bits.specs.Tests.{pick, both, isBetween}
 use Rattle.bits.specs.Numbers.{numOf}
-
--- n is one of first to last
-abbrev pub isBetween : ℕ → ℕ → ℕ → Bool
-isBetween first last n = both (leb first n) (leb n last)
 
 -- paragraphs 5.3, 5.9, 5.11 and 5.6: the presence bit of the mode in whose code bit i stands, 27 of Mode 3/A, 25 of Mode 1, 26 of Mode 2; 0
 -- where it stands in none

@@ -110,13 +110,13 @@ module _ (first second : Message) (buffer : List ℕ) where
     close-pair p = rw (size, p)
 
     module _ (paired : pairOf (kindOf first) (kindOf second) ≡ true) where
-      pub close-first : (r : Refusal) → encodedOf 1 first ≡ E.Refused r → (closeRefusal first second buffer ≡ r) × Refuses r
+      pub first-unwritten : (r : Refusal) → encodedOf 1 first ≡ E.Refused r → (closeRefusal first second buffer ≡ r) × Refuses r
       unfolding closeRefusal
-      close-first r e = let p = word-refused 1 first r e in (rw (size, paired) (p .1 (inside 2 (messageTrouble second) ∷ [])), p .0)
+      first-unwritten r e = let p = word-refused 1 first r e in (rw (size, paired) (p .1 (inside 2 (messageTrouble second) ∷ [])), p .0)
 
-      pub close-second : messageTrouble first ≡ Nothing → (r : Refusal) → encodedOf 2 second ≡ E.Refused r → (closeRefusal first second buffer ≡ r) × Refuses r
+      pub second-unwritten : messageTrouble first ≡ Nothing → (r : Refusal) → encodedOf 2 second ≡ E.Refused r → (closeRefusal first second buffer ≡ r) × Refuses r
       unfolding closeRefusal
-      close-second one r e = let p = word-refused 2 second r e in (rw (size, paired, one) (p .1 []), p .0)
+      second-unwritten one r e = let p = word-refused 2 second r e in (rw (size, paired, one) (p .1 []), p .0)
 
       pub close-good : messageTrouble first ≡ Nothing → messageTrouble second ≡ Nothing → closeRefusal first second buffer ≡ numbered success
       unfolding closeRefusal

@@ -5,28 +5,20 @@ use mathlib.Core.List.{List}
 use Prim.Native.Nat.{ℕ, _+_, _-_, _*_, _/_, _%_, _≤_, _<_}
 use native.Mathlib.Nat.{mod-lt}
 use native.Mathlib.Omega.{arith}
-use borrow.Author.Tests.{le-leb, leb-true}
 use lib.Dec.{eqb, lit<, lit≤}
 use lib.ListN.{length, getD}
-use Rattle.bits.specs.Tests.{pick, both}
+use Rattle.bits.specs.Tests.{pick, both, isBetween}
 use Rattle.bits.specs.Octets.{bitAt, octetsOf}
 use Rattle.frame.specs.Frame.{goodFrame}
 use Rattle.frame.specs.Words.{placeOf, wordOf, imageOf}
-use Rattle.message.specs.Zeroed.{isBetween, zeroedBit, NoDigits}
+use Rattle.message.specs.Zeroed.{zeroedBit, NoDigits}
 use Rattle.pair.specs.Zeroed.{messageOf, zeroedData, zeroedCheck, zeroedGroup, zeroedFrame, zeroedImage, Clear}
-use Rattle.bits.proofs.TestLaws.{both-true, both-false}
+use Rattle.bits.proofs.TestLaws.{both-true, both-false, between, in-between}
 use Rattle.bits.proofs.NumberLaws.{num-ext, sum-ext}
 use Rattle.bits.proofs.OctetLaws.{bit-lt, bit-octets, octets-ext}
 use Rattle.frame.proofs.FrameLaws.{start-zero, mark-one, final-one, good-by}
 use Rattle.frame.proofs.WordLaws.{image-frame, image-back}
 use Rattle.message.proofs.ZeroedLaws.{wordFrom, clear-stays, stays-clear, zeroed-lt, zeroed-ext, zeroed-twice}
-
--- a number in a range passes its test, and the other way round
-between : (first last n : ℕ) → first ≤ n → n ≤ last → isBetween first last n ≡ true
-between first last n h l = ap₂ both (le-leb first n h) (le-leb n last l)
-
-range : (first last n : ℕ) → isBetween first last n ≡ true → (first ≤ n) × (n ≤ last)
-range first last n e = let p = both-true e in (leb-true _ _ (p .0), leb-true _ _ (p .1))
 
 -- ---- bit by bit
 
@@ -109,10 +101,10 @@ module _ (b c : ℕ → ℕ) (same : (n : ℕ) → 1 ≤ n → n ≤ 128 → c n
       go : (s : Bool) → both (isBetween 1 7 j) (isBetween 1 14 g) ≡ s → (t : Bool) → both (isBetween 1 6 j) (eqb g 15) ≡ t
           → pick s (zeroedData c g j) (pick t (zeroedCheck c j) (c (8 * g + j + 1))) ≡ pick s (zeroedData b g j) (pick t (zeroedCheck b j) (b (8 * g + j + 1)))
       go true e t f =
-          let p = both-true e in let q = range 1 7 j (p .0) in let r = range 1 14 g (p .1) in
+          let p = both-true e in let q = in-between 1 7 j (p .0) in let r = in-between 1 14 g (p .1) in
           data-again g j (r .0) (r .1) (q .0) (q .1)
       go false e true f =
-          let q = range 1 6 j (both-true f .0) in
+          let q = in-between 1 6 j (both-true f .0) in
           ap (λ (x : ℕ). (x + 1) % 2) (sum-ext _ _ 14 (λ h k. data-again (h + 1) j (omega arith) (omega arith) (q .0) (omega (arith, q .1))))
       go false e false f =
           same (8 * g + j + 1) (omega arith) (omega arith) ∙ zeroed-at b (8 * g + j + 1) g j (omega arith) (omega arith) ∙ rw (e, f)

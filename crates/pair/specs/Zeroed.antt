@@ -3,11 +3,11 @@
 use mathlib.Core.List.{List}
 use Prim.Native.Nat.{ℕ, _+_, _-_, _*_, _/_, _%_}
 use lib.Dec.{eqb}
-use Rattle.bits.specs.Tests.{pick, both}
+use Rattle.bits.specs.Tests.{pick, both, isBetween}
 use Rattle.bits.specs.Numbers.{sumOf}
 use Rattle.bits.specs.Octets.{bitAt, octetsOf}
 use Rattle.frame.specs.Words.{placeOf}
-use Rattle.message.specs.Zeroed.{isBetween, zeroedBit, NoDigits}
+use Rattle.message.specs.Zeroed.{zeroedBit, NoDigits}
 
 -- bit i of message k of the frame b
 abbrev pub messageOf : (ℕ → ℕ) → ℕ → ℕ → ℕ

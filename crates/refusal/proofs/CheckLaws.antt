@@ -5,15 +5,15 @@ use mathlib.Core.List.{List, [], _∷_, _++_}
 use mathlib.Core.Logic.{_⊎_, inl, inr}
 use Prim.Native.Nat.{ℕ, _≤_}
 use native.Mathlib.Omega.{arith}
-use borrow.Author.Tests.{eq-eqb, ne-eqb, eqb-true, leb-true, le-leb, lt-leb}
+use borrow.Author.Tests.{eq-eqb, ne-eqb, eqb-true, le-leb, lt-leb}
 use lib.Dec.{eqb, leb}
-use Rattle.bits.specs.Tests.{pick, both}
+use Rattle.bits.specs.Tests.{pick, both, isBetween}
 use Rattle.bits.specs.declared.Cause.{Cause}
 use Rattle.bits.specs.declared.Cause.the-variants.{Pattern, Spare, Unused, TooWide}
 use Rattle.bits.specs.declared.Trouble.{Trouble}
 use Rattle.bits.specs.declared.Trouble.the-variants.{Nothing, Wrong}
 use Rattle.bits.specs.Trouble.{isNothing}
-use Rattle.bits.proofs.TestLaws.{both-true, clash}
+use Rattle.bits.proofs.TestLaws.{both-true, between, in-between, clash}
 use Rattle.bits.proofs.LayoutLaws.{nothing-is}
 use Rattle.refusal.specs.Refusals.{success, noPosition, badPattern, spareBit, unusedCode, tooWide, numbered, causeNumber, insideAt, troubled}
 use Rattle.refusal.specs.Checks.{Check, test, inside, isPassed, toldBy, firstRefusal, onSuccess, answered}
@@ -21,16 +21,13 @@ use Rattle.refusal.specs.declared.Refusal.{Refusal}
 
 -- ---- a refusal of the table (01, 'Numbers a caller may get back'; 02, item 4)
 
-abbrev isFrom : ℕ → ℕ → ℕ → Bool
-isFrom low high n = both (leb low n) (leb n high)
-
 -- a number of 1 to 11 that is not 8, place 0, 1 or 2, and bit 0
 abbrev isPlain : Refusal → Bool
-isPlain r = both (isFrom 1 noPosition (r .number)) (both (not (eqb (r .number) 8)) (both (leb (r .place) 2) (eqb (r .bit) 0)))
+isPlain r = both (isBetween 1 noPosition (r .number)) (both (not (eqb (r .number) 8)) (both (leb (r .place) 2) (eqb (r .bit) 0)))
 
 -- a number of 12 to 15, message 1 or 2, and a bit of 7 to 49
 abbrev isInside : Refusal → Bool
-isInside r = both (isFrom badPattern tooWide (r .number)) (both (isFrom 1 2 (r .place)) (isFrom 7 49 (r .bit)))
+isInside r = both (isBetween badPattern tooWide (r .number)) (both (isBetween 1 2 (r .place)) (isBetween 7 49 (r .bit)))
 
 -- success with place 0 and bit 0, or one of these
 abbrev pub ofTable : Refusal → Bool
@@ -39,7 +36,7 @@ ofTable r = pick (eqb (r .number) success) (both (eqb (r .place) 0) (eqb (r .bit
 -- every check of a list, if it is not passed, refuses with a number of the table
 abbrev refuses : Check → Bool
 refuses (test passed r) = isPlain r
-refuses (inside place t) = isFrom 1 2 place
+refuses (inside place t) = isBetween 1 2 place
 
 abbrev pub allRefuse : List Check → Bool
 allRefuse [] = true
@@ -56,18 +53,16 @@ AllInMessage (test passed r ∷ cs) = AllInMessage cs
 AllInMessage (inside place t ∷ cs) = InMessage t × AllInMessage cs
 
 plain-number : (r : Refusal) → isPlain r ≡ true → (1 ≤ r .number) × (r .number ≤ noPosition)
-plain-number r e =
-    let p = both-true (both-true e .0) in
-    (leb-true 1 (r .number) (p .0), leb-true (r .number) noPosition (p .1))
+plain-number r e = in-between 1 noPosition (r .number) (both-true e .0)
 
-cause-from : (c : Cause) → isFrom badPattern tooWide (causeNumber c) ≡ true
+cause-from : (c : Cause) → isBetween badPattern tooWide (causeNumber c) ≡ true
 cause-from Pattern = refl
 cause-from Spare = refl
 cause-from Unused = refl
 cause-from TooWide = refl
 
-cause-number : (c : Cause) → (badPattern ≤ causeNumber c)
-cause-number c = leb-true badPattern (causeNumber c) (both-true (cause-from c) .0)
+cause-number : (c : Cause) → badPattern ≤ causeNumber c
+cause-number c = in-between badPattern tooWide (causeNumber c) (cause-from c) .0
 
 -- a refusal, and no success
 abbrev pub Refuses : Refusal → Type 0
@@ -89,11 +84,11 @@ plain-of-table r e =
     ap (λ (t : Bool). pick t (both (eqb (r .place) 0) (eqb (r .bit) 0)) (pick (leb (r .number) noPosition) (isPlain r) (isInside r))) (ne-eqb _ _ h)
     ∙ ap (λ (t : Bool). pick t (isPlain r) (isInside r)) (le-leb _ _ (n .1)) ∙ e
 
-inside-of-table : (place : ℕ) (c : Cause) (b : ℕ) → isFrom 1 2 place ≡ true → InMessage (Wrong c b) → ofTable (insideAt place c b) ≡ true
+inside-of-table : (place : ℕ) (c : Cause) (b : ℕ) → isBetween 1 2 place ≡ true → InMessage (Wrong c b) → ofTable (insideAt place c b) ≡ true
 inside-of-table place c b e (low, high) =
     let g = cause-number c in
     let h : causeNumber c ≡ success → ⊥ = λ z. omega (arith, g) in
-    rw (ne-eqb _ _ h, lt-leb (causeNumber c) noPosition (omega (arith, g)), cause-from c, e, le-leb 7 b low, le-leb b 49 high)
+    rw (ne-eqb _ _ h, lt-leb (causeNumber c) noPosition (omega (arith, g)), cause-from c, e, between 7 49 b low high)
 
 told-of-table : (c : Check) → refuses c ≡ true → AllInMessage (c ∷ []) → isPassed c ≡ false → ofTable (toldBy c) ≡ true
 told-of-table (test passed r) e m f = plain-of-table r e

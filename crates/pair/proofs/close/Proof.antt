@@ -10,7 +10,7 @@ use Rattle.message.specs.Codec.{messageTrouble, messageWord}
 use Rattle.message.specs.Messages.{kindOf}
 use Rattle.pair.specs.Pairs.{pairOf}
 use Rattle.message.proofs.CodecLaws.{word-good}
-use Rattle.pair.proofs.PairLaws.{close-length, close-pair, close-first, close-second, close-good, buffer-stays, buffer-written}
+use Rattle.pair.proofs.PairLaws.{close-length, close-pair, first-unwritten, second-unwritten, close-good, buffer-stays, buffer-written}
 use Rattle.pair.proofs.close.Statement.{statement}
 use Rattle.pair.proofs.close.Tie as tie
 
@@ -85,7 +85,7 @@ returns-3 : tie.Need-returns-3
 returns-3 c =
     let one = c .before .before .before in
     let t = one .before in
-    let p = close-first _ _ _ (t .before .before .before .before .if1 .left) (paired t) _ (sym (one .encode .ensures) ∙ c .before .r .given .1) in
+    let p = first-unwritten _ _ _ (t .before .before .before .before .if1 .left) (paired t) _ (sym (one .encode .ensures) ∙ c .before .r .given .1) in
     (sym (p .0), buffer-stays _ _ _ _ (p .0) (p .1))
 
 returns-4 : tie.Need-returns-4
@@ -93,7 +93,7 @@ returns-4 c =
     let two = c .before .before .before in
     let v = two .before .before in
     let t = v .before .before .before in
-    let p = close-second _ _ _ (t .before .before .before .before .if1 .left) (paired t) (first-written v .0) _ (sym (two .encode2 .ensures) ∙ c .before .r2 .given .1) in
+    let p = second-unwritten _ _ _ (t .before .before .before .before .if1 .left) (paired t) (first-written v .0) _ (sym (two .encode2 .ensures) ∙ c .before .r2 .given .1) in
     (sym (p .0), buffer-stays _ _ _ _ (p .0) (p .1))
 
 same-length : tie.Need-same-length
