@@ -1,2 +1,2 @@
-mod SieveLaws
+pub mod SieveLaws
 pub mod SearchLaws

@@ -119,3 +119,12 @@ module _ (capture : List ℕ) where
             let end : leastFrom capture start ≡ start + (8 * length capture - start) = first-end _ start q in
             let h : start ≤ 8 * length capture = leb-true _ _ p in
             none-end capture start (leastFrom capture start) (λ r a b. first-none _ start r a b) (omega arith)
+
+    -- so where a start in the capture is refused
+    pub none-answered : length capture ≤ 65536 → start ≤ 8 * length capture → (r : Refusal) → searchOf capture start ≡ Refused r → NoneFrom capture start
+    unfolding searchOf searchRefusal
+    none-answered short inside r e = go (goodAt capture (leastFrom capture start)) refl
+      where
+        go : (g : Bool) → goodAt capture (leastFrom capture start) ≡ g → NoneFrom capture start
+        go true q = let found : searchOf capture start ≡ At (leastFrom capture start) = rw (le-leb _ _ short, le-leb _ _ inside, q) in zero-one (cc)
+        go false q = none-found (rw (le-leb _ _ short, le-leb _ _ inside, q))

@@ -1,11 +1,11 @@
 // A capture, a run of octets of decoded bits: the search for the first good frame.
 
 ghost use mathlib.Core.Path.{_≡_};
-ghost use Prim.Native.Nat.{_+_, _≤_, min};
+ghost use Prim.Native.Nat.{_+_, _*_, _≤_, _<_, min};
 ghost use lib.ListN.{length};
 ghost use Rattle.frame.specs.Frame.{Lies};
 ghost use Rattle.capture.specs.Search.{refusalOf, goodAt, searchOf};
-ghost use Rattle.capture.specs.Sieve.{Idle, Sifted, Within, Tried, Looked};
+ghost use Rattle.capture.specs.Sieve.{Passed, Looked};
 use refusal::Refusal;
 
 // What a search answers: the position of the first good frame, or the refusal.
@@ -30,7 +30,7 @@ impl Found {
 // cover the last bit of the octet that they begin in, so an idle line is passed at one test an octet.
 fn pass_idle(capture: &[u8], i: usize) -> usize
     requires { ⌜ i ≤ length (now capture) ⌝ }
-    ensures { λ r. ⌜ Idle (now (capture .entry)) i r ⌝ }
+    ensures { λ r. ⌜ Passed (now (capture .entry)) i r ⌝ }
 {
     let mut o = i;
     while o < capture.len() {
@@ -42,61 +42,33 @@ fn pass_idle(capture: &[u8], i: usize) -> usize
     o
 }
 
-// The marks that may be: `ones` for the octets from i to i + from - 1.
-struct Sieve {
-    ones: u8,
-    from: usize,
-}
-
-// The AND of octets i + 15 down to i + 1, or down to the one at which it becomes zero. The fifteen marks of a
-// frame that begins in octet i stand in these octets, all in one place of theirs.
-fn sift(capture: &[u8], i: usize) -> Sieve
+// The octet that can be gone on from, or i. The fifteen marks of a frame that begins in octet i stand in the fifteen octets
+// after it, all in one place of theirs: where the AND of the last eight becomes zero, no frame begins up to there.
+fn pass_unmarked(capture: &[u8], i: usize) -> usize
     requires { ⌜ i + 16 ≤ length (now capture) ⌝ }
-    ensures { λ r. ⌜ Sifted (now (capture .entry)) i (r .ones) (r .from) ⌝ }
+    ensures { λ r. ⌜ Passed (now (capture .entry)) i r ⌝ }
 {
     let mut ones: u8 = 255;
     let mut from = 16;
-    while 1 < from {
+    while 8 < from {
         from -= 1;
         ones = ones & capture[i + from];
         if ones == 0 {
-            return Sieve { ones, from };
+            return i + from;
         }
     }
-    Sieve { ones, from }
+    i
 }
 
-// Whether a good frame lies at position q of octet i.
-fn is_frame(capture: &[u8], i: usize, sieve: Sieve, q: usize) -> bool
-    requires { ⌜ Sifted (now capture) i (sieve .ones) (sieve .from) × Within (now capture) i q (q + 1) ⌝ }
+// Whether a good frame lies whole at position q.
+fn is_frame(capture: &[u8], q: usize) -> bool
+    requires { ⌜ (q < 8 * length (now capture)) × (length (now capture) ≤ 65536) ⌝ }
     ensures { λ r. ⌜ r ≡ goodAt (now (capture .entry)) q ⌝ }
 {
-    let ones = sieve.ones;
-    if (ones >> (7 - q % 8)) % 2 == 0 {
+    if 8 * capture.len() < q + 128 {
         return false;
     }
     frame::verdict_at(capture, q).number == refusal::SUCCESS
-}
-
-// The least position from p on, below e, with a good frame, or e.
-fn try_each(capture: &[u8], i: usize, sieve: Sieve, p: usize, e: usize) -> usize
-    requires { ⌜ Sifted (now capture) i (sieve .ones) (sieve .from) × Within (now capture) i p e × (p ≤ e) ⌝ }
-    ensures { λ r. ⌜ Tried (now (capture .entry)) p e r ⌝ }
-{
-    let mut q = p;
-    while q < e {
-        if is_frame(capture, i, sieve, q) {
-            return q;
-        }
-        q += 1;
-    }
-    q
-}
-
-fn least(a: usize, b: usize) -> usize
-    ensures { λ r. ⌜ r ≡ min a b ⌝ }
-{
-    if a < b { a } else { b }
 }
 
 // What was seen: a good frame at `at`, or none before it.
@@ -105,30 +77,81 @@ struct Seen {
     at: usize,
 }
 
-// Looks on from position p: past an idle stretch, past octets that lack a mark, or at the octet of p.
+// Looks from position p to the end of its octet. A frame that begins there has its first mark where the next octet has its first
+// one, so there is one position to try, and before it is judged its octet must end in the zeros of a start group.
+fn look_in_octet(capture: &[u8], p: usize) -> Seen
+    requires { ⌜ Lies (now capture) p ⌝ }
+    ensures { λ r. ⌜ Looked (now (capture .entry)) p (r .frame) (r .at) ⌝ }
+{
+    let i = p / 8;
+    let none = Seen {
+        frame: false,
+        at: 8 * i + 8,
+    };
+    let lead = frame::lead(capture[i + 1]);
+    if lead == 8 {
+        return none;
+    }
+    if capture[i] << lead != 0 {
+        return none;
+    }
+    let q = 8 * i + lead as usize;
+    if q < p {
+        return none;
+    }
+    if is_frame(capture, q) {
+        return Seen { frame: true, at: q };
+    }
+    none
+}
+
+// Looks from position p on, octet by octet, as far as e.
+fn look_each(capture: &[u8], p: usize, e: usize) -> Seen
+    requires { ⌜ (p < e) × (e + 127 ≤ 8 * length (now capture)) × (length (now capture) ≤ 65536) ⌝ }
+    ensures { λ r. ⌜ Looked (now (capture .entry)) p (r .frame) (r .at) ⌝ }
+{
+    let mut q = p;
+    while q < e {
+        let seen = look_in_octet(capture, q);
+        if seen.frame {
+            return seen;
+        }
+        q = seen.at;
+    }
+    Seen {
+        frame: false,
+        at: q,
+    }
+}
+
+fn least(a: usize, b: usize) -> usize
+    ensures { λ r. ⌜ r ≡ min a b ⌝ }
+{
+    if a < b { a } else { b }
+}
+
+// Looks on from position p: past an idle stretch, past octets that lack a mark, or at the next eight octets. So an octet costs a
+// few tests, whatever it holds, and only a start group with its first mark costs a verdict.
 fn look(capture: &[u8], p: usize) -> Seen
     requires { ⌜ Lies (now capture) p ⌝ }
     ensures { λ r. ⌜ Looked (now (capture .entry)) p (r .frame) (r .at) ⌝ }
 {
     let i = p / 8;
-    let o = pass_idle(capture, i);
-    if i < o {
+    let idle = pass_idle(capture, i);
+    if i < idle {
         return Seen {
             frame: false,
-            at: 8 * o,
+            at: 8 * idle,
         };
     }
-    let sieve = sift(capture, i);
-    let from = sieve.from;
-    if sieve.ones == 0 {
+    let unmarked = pass_unmarked(capture, i);
+    if i < unmarked {
         return Seen {
             frame: false,
-            at: 8 * (i + from),
+            at: 8 * unmarked,
         };
     }
-    let e = least(8 * i + 8, 8 * capture.len() - 127);
-    let at = try_each(capture, i, sieve, p, e);
-    Seen { frame: at < e, at }
+    look_each(capture, p, least(8 * i + 64, 8 * capture.len() - 127))
 }
 
 // The least position from `start` on at which a good frame lies whole: 2, 9, 10.

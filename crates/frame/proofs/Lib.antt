@@ -1,3 +1,4 @@
 pub mod FrameLaws
 pub mod WordLaws
 mod PackingLaws
+pub mod LeadLaws

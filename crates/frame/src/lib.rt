@@ -3,6 +3,7 @@
 
 ghost use mathlib.Core.Path.{_≡_};
 ghost use Prim.Native.Nat.{_+_, _*_, _≤_, _<_};
+ghost use lib.Count.{leadingZeros};
 ghost use lib.ListN.{length};
 ghost use Rattle.bits.specs.Numbers.{numOf, tab};
 ghost use Rattle.bits.specs.Octets.{bitAt};
@@ -85,6 +86,14 @@ pub fn verdict_at(octets: &[u8], position: usize) -> Refusal
         return Refusal::of(refusal::BAD_CHECK);
     }
     Refusal::of(refusal::SUCCESS)
+}
+
+// The zeros at the front of an octet. A good frame that begins so many bits behind the front of the octet before, 8 at most, has the
+// last of its start group there, and then its first mark. So it begins there or, in these nine places, not at all.
+pub fn lead(octet: u8) -> u32
+    ensures { λ r. ⌜ (r ≡ leadingZeros 8 octet) × (r ≤ 8) ⌝ }
+{
+    u8::leading_zeros(octet)
 }
 
 // What is wrong first with an image, or success: 2, 3, 4, 5.

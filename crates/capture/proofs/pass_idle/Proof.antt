@@ -2,19 +2,19 @@
 use Prim.Native.Nat.{_-_}
 use borrow.Author.Needs.{needs}
 use lib.ListN.{length}
-use Rattle.capture.specs.Sieve.{Idle}
-use Rattle.capture.proofs.SieveLaws.{idle-start, idle-more}
+use Rattle.capture.specs.Sieve.{Passed}
+use Rattle.capture.proofs.SieveLaws.{pass-none, idle-more}
 use Rattle.capture.proofs.pass_idle.Statement.{statement}
 use Rattle.capture.proofs.pass_idle.Tie as tie
 
 abbrev Inv-loop : tie.InvT-loop
-Inv-loop capture i o₀ o = Idle capture i o
+Inv-loop capture i o₀ o = Passed capture i o
 
 abbrev μ-loop : tie.MeasureT-loop
 μ-loop capture i o₀ o = length capture - o
 
 loop-holds : tie.Need-loop-holds Inv-loop μ-loop
-loop-holds c = idle-start _ _ (c .pre)
+loop-holds c = pass-none _ _ (c .pre)
 
 shared-slice-read-if1 : tie.Need-shared-slice-read-if1 Inv-loop μ-loop
 shared-slice-read-if1 c = search needs

@@ -1,9 +1,8 @@
--- `capture::sift` meets its contract. The loop's invariant is what it promises. Assumes nothing.
+-- `capture::pass_unmarked` meets its contract. The loop's invariant: what the AND so far rules out. Assumes nothing.
 use borrow.Author.Needs.{needs}
-use Rattle.capture.specs.Sieve.{Sifted}
-use Rattle.capture.proofs.SieveLaws.{sift-start, sift-more}
-use Rattle.capture.proofs.sift.Statement.{statement}
-use Rattle.capture.proofs.sift.Tie as tie
+use Rattle.capture.proofs.SieveLaws.{Sifted, sift-start, sift-more, sift-none, pass-none}
+use Rattle.capture.proofs.pass_unmarked.Statement.{statement}
+use Rattle.capture.proofs.pass_unmarked.Tie as tie
 
 abbrev Inv-loop : tie.InvT-loop
 Inv-loop capture i ones₀ from₀ ones from = Sifted capture i ones from
@@ -23,8 +22,11 @@ add-ones c = search needs
 shared-slice-read-ones : tie.Need-shared-slice-read-ones Inv-loop μ-loop
 shared-slice-read-ones c = search needs
 
+add-result : tie.Need-add-result Inv-loop μ-loop
+add-result c = search needs
+
 returns : tie.Need-returns Inv-loop μ-loop
-returns c = sift-more _ _ _ _ (c .before .before .before .loop .inv) (search needs)
+returns c = sift-none _ _ _ _ (sift-more _ _ _ _ (c .before .before .before .loop .inv) (search needs)) (c .if1 .taken) (search needs)
 
 loop-less : tie.Need-loop-less Inv-loop μ-loop
 loop-less c = search needs
@@ -33,10 +35,10 @@ loop-again : tie.Need-loop-again Inv-loop μ-loop
 loop-again c = sift-more _ _ _ _ (c .before .before .before .loop .inv) (search needs)
 
 returns-2 : tie.Need-returns-2 Inv-loop μ-loop
-returns-2 c = c .before .loop .inv
+returns-2 c = pass-none _ _ (search needs)
 
-pub sift-spec : {M : Type 1} → statement M
-sift-spec =
+pub pass-unmarked-spec : {M : Type 1} → statement M
+pass-unmarked-spec =
     tie.close
     (tie.spec
     Inv-loop
@@ -45,6 +47,7 @@ sift-spec =
     sub-from
     add-ones
     shared-slice-read-ones
+    add-result
     returns
     loop-less
     loop-again
