@@ -8,7 +8,7 @@ use Rattle.bits.specs.Numbers.{numOf, sumOf}
 use Rattle.link1.proofs.Examples.{imageT, imageN}
 use Rattle.pair.specs.Pairs.{pairOf}
 use Rattle.pair.specs.Opening.{openRefusal, openOf}
-use Rattle.listing.specs.Text.{octets, decBy, dec, decThen, row}
+use Rattle.text.specs.Text.{octets, decBy, dec, decThen, row}
 use Rattle.listing.specs.Listing.{imageAt, imageLine, imageLines, lastLine, listingOf}
 
 -- a log, and its listing

@@ -8,11 +8,11 @@ use borrow.Author.Tests.{lt-ltb, le-ltb}
 use lib.ListN.{length, take, drop}
 use Rattle.pair.specs.Opening.{openOf}
 use Rattle.pair.specs.declared.Opened.{Opened}
-use Rattle.listing.specs.Text.{row}
-use Rattle.listing.specs.Wrote.{Wrote}
-use Rattle.listing.specs.Listing.{header, tooLong, numbersOf, imageLine, imageLines, imageAt, lastLine, listingOf}
-use Rattle.listing.proofs.WroteLaws.{put-put, put-as}
-use Rattle.listing.proofs.TextLaws.{Below, row-short}
+use Rattle.text.specs.Text.{row, tooLong}
+use Rattle.text.specs.Wrote.{Wrote}
+use Rattle.listing.specs.Listing.{header, numbersOf, imageLine, imageLines, imageAt, lastLine, listingOf}
+use Rattle.text.proofs.WroteLaws.{put-put, put-as}
+use Rattle.text.proofs.TextLaws.{Below, row-short}
 
 -- a line of at most four small numbers that are an image's is the image's line
 pub image-put : (d : List ℕ) (at n : ℕ) (o : Opened) {xs g : List ℕ} {t : ℕ} → xs ≡ numbersOf n o → Below 10000 xs → length xs ≤ 4

@@ -11,7 +11,7 @@ use Rattle.message.specs.Messages.{kindOf}
 use Rattle.pair.specs.Opening.{openOf}
 use Rattle.pair.specs.declared.Opened.{Opened}
 use Rattle.pair.specs.declared.Opened.the-variants.{Pair, Refused}
-use Rattle.listing.specs.Text.{octets, row}
+use Rattle.text.specs.Text.{octets, row, tooLong}
 
 -- 'the header LINK1'
 abbrev pub header : List ℕ
@@ -43,11 +43,7 @@ imageLines log (suc k) = imageLines log k ++ imageLine (suc k) (openOf (imageAt 
 unfoldable pub lastLine : ℕ → ℕ → List ℕ
 lastLine images left = octets "END " ++ row (images ∷ left ∷ [])
 
--- 'at most 65,536 octets; more gives the single line TOO LONG'
-abbrev pub tooLong : List ℕ
-tooLong = octets "TOO LONG\n"
-
--- the listing of a log
+-- the listing of a log: 'at most 65,536 octets; more gives the single line TOO LONG'
 unfoldable pub listingOf : List ℕ → List ℕ
 listingOf log =
     pick (ltb 65536 (length log))

@@ -5,9 +5,9 @@ use native.Mathlib.Omega.{arith}
 use lib.ListN.{length}
 use Prim.Native.Nat.{_+_, _-_, _*_, _/_, _≤_}
 use Rattle.io.proofs.Counting.{counts}
-use Rattle.listing.specs.Wrote.{Wrote}
+use Rattle.text.specs.Wrote.{Wrote}
 use Rattle.listing.specs.Listing.{imageLines}
-use Rattle.listing.proofs.WroteLaws.{put-none, put-as, put-put}
+use Rattle.text.proofs.WroteLaws.{put-none, put-as, put-put}
 use Rattle.listing.proofs.ListingLaws.{lines-more, listed, listed-long}
 use Rattle.listing.proofs.fill.Statement.{statement}
 use Rattle.listing.proofs.fill.Tie as tie

@@ -2,7 +2,7 @@
 use borrow.Author.Needs.{needs}
 use native.Mathlib.Omega.{arith}
 use Rattle.listing.specs.Listing.{lastLine}
-use Rattle.listing.proofs.WroteLaws.{put-put}
+use Rattle.text.proofs.WroteLaws.{put-put}
 use Rattle.listing.proofs.put_last.Statement.{statement}
 use Rattle.listing.proofs.put_last.Tie as tie
 

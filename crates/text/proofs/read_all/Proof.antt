@@ -1,4 +1,4 @@
--- `listing::read_log` meets its contract. Assumes nothing.
+-- `text::read_all` meets its contract. Assumes nothing.
 use mathlib.Core.Path.{_≡_, refl, sym, _∙_}
 use mathlib.Core.List.{List}
 use Prim.Native.Nat.{ℕ, _-_, _≤_}
@@ -8,8 +8,8 @@ use borrow.Author.Needs.{needs}
 use lib.ListN.{length, drop, length-take}
 use lib.Seq.{length-take-le}
 use Rattle.io.specs.Counts.{Counts}
-use Rattle.listing.proofs.read_log.Statement.{statement}
-use Rattle.listing.proofs.read_log.Tie as tie
+use Rattle.text.proofs.read_all.Statement.{statement}
+use Rattle.text.proofs.read_all.Tie as tie
 
 abbrev Inv-loop : tie.InvT-loop
 Inv-loop from space₀ count₀ space count = (count ≤ length space) × (length space ≡ length space₀)
@@ -69,8 +69,8 @@ same-length-2 c = search needs
 returns-2 : tie.Need-returns-2 Inv-loop μ-loop
 returns-2 c = counts _ _ (search needs)
 
-pub read-log-spec : {M : Type 1} → statement M
-read-log-spec =
+pub read-all-spec : {M : Type 1} → statement M
+read-all-spec =
     tie.close
     (tie.spec
     Inv-loop

@@ -7,7 +7,7 @@ use native.Mathlib.Numerals.{add-one}
 use native.Mathlib.Omega.{arith}
 use lib.ListN.{length, take, drop, set, length-append, length-drop, drop-of-length-le}
 use lib.Seq.{take-all, take-at, drop-at, paste-zero, drop-drop, take-length, set-split, length-take-le, append-snoc}
-use Rattle.listing.specs.Wrote.{Wrote, pasted}
+use Rattle.text.specs.Wrote.{Wrote, pasted}
 
 -- what stands before a text and the text itself
 head-length : (d : List ℕ) (at : ℕ) (xs : List ℕ) → at + length xs ≤ length d → length (take at d ++ xs) ≡ at + length xs

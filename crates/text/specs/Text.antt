@@ -30,3 +30,7 @@ unfoldable pub row : List ℕ → List ℕ
 row [] = []
 row (a ∷ []) = decThen a 10
 row (a ∷ b ∷ rest) = decThen a 32 ++ row (b ∷ rest)
+
+-- what a program writes whose input is too long (01, 'The listing program'; 02, item 5)
+abbrev pub tooLong : List ℕ
+tooLong = octets "TOO LONG\n"

@@ -1,12 +1,12 @@
--- `listing::put` meets its contract. Assumes nothing.
+-- `text::put` meets its contract. Assumes nothing.
 use borrow.Author.Needs.{needs}
 use mathlib.Core.Path.{refl, ap, _∙_}
 use mathlib.Core.List.{List, _++_}
 use lib.ListN.{length, take, drop}
 use Prim.Native.Nat.{ℕ, _-_}
-use Rattle.listing.proofs.WroteLaws.{put-copy}
-use Rattle.listing.proofs.put.Statement.{statement}
-use Rattle.listing.proofs.put.Tie as tie
+use Rattle.text.proofs.WroteLaws.{put-copy}
+use Rattle.text.proofs.put.Statement.{statement}
+use Rattle.text.proofs.put.Tie as tie
 
 sub-copy : tie.Need-sub-copy
 sub-copy c = search needs

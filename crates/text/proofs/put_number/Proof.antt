@@ -1,15 +1,15 @@
--- `listing::put_number` meets its contract. Assumes nothing.
+-- `text::put_number` meets its contract. Assumes nothing.
 use borrow.Author.Needs.{needs}
 use mathlib.Core.Path.{_≡_, _∙_}
 use native.Mathlib.Omega.{arith}
 use lib.ListN.{length, take}
 use lib.Seq.{length-take-le}
 use Prim.Native.Nat.{_≤_}
-use Rattle.listing.specs.Text.{decThen}
-use Rattle.listing.proofs.WroteLaws.{put-as, put-put, put-one}
-use Rattle.listing.proofs.TextLaws.{decimal-dec, at-most-20}
-use Rattle.listing.proofs.put_number.Statement.{statement}
-use Rattle.listing.proofs.put_number.Tie as tie
+use Rattle.text.specs.Text.{decThen}
+use Rattle.text.proofs.WroteLaws.{put-as, put-put, put-one}
+use Rattle.text.proofs.TextLaws.{decimal-dec, at-most-20}
+use Rattle.text.proofs.put_number.Statement.{statement}
+use Rattle.text.proofs.put_number.Tie as tie
 
 -- the digits that are put: their count, and that it is at most 20
 few : (c : tie.After-digits2)

@@ -1,14 +1,14 @@
--- `listing::put_row` meets its contract. Assumes nothing.
+-- `text::put_row` meets its contract. Assumes nothing.
 use borrow.Author.Needs.{needs}
 use mathlib.Core.Path.{_≡_, refl, sym, ap, _∙_}
 use Prim.Native.Nat.{ℕ, _+_, _-_, _*_, _≤_}
 use native.Mathlib.Omega.{arith}
 use lib.ListN.{length, take}
-use Rattle.listing.specs.Wrote.{Wrote}
-use Rattle.listing.proofs.WroteLaws.{put-none, put-as, put-put}
-use Rattle.listing.proofs.TextLaws.{spaced, spaced-none, spaced-more, row-done}
-use Rattle.listing.proofs.put_row.Statement.{statement}
-use Rattle.listing.proofs.put_row.Tie as tie
+use Rattle.text.specs.Wrote.{Wrote}
+use Rattle.text.proofs.WroteLaws.{put-none, put-as, put-put}
+use Rattle.text.proofs.TextLaws.{spaced, spaced-none, spaced-more, row-done}
+use Rattle.text.proofs.put_row.Statement.{statement}
+use Rattle.text.proofs.put_row.Tie as tie
 
 abbrev Inv-loop : tie.InvT-loop
 Inv-loop out₀ at numbers last next₀ i₀ out next i =

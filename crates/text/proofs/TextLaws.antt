@@ -10,7 +10,7 @@ use borrow.Author.Tests.{lt-ltb, le-ltb}
 use lib.ListN.{length, getD, take, length-append}
 use lib.Seq.{take-suc, take-length}
 use Rattle.io.specs.Digits.{digits, Fewest}
-use Rattle.listing.specs.Text.{decBy, dec, decThen, row}
+use Rattle.text.specs.Text.{decBy, dec, decThen, row}
 
 -- ---- the digits that `io::decimal` counts and spells
 
