@@ -724,6 +724,11 @@ def bits_of(*images):
     return [bit for octets in images for bit in link1.octet_bits(octets)]
 
 
+def capture_of(bits, filler=1):
+    """These bits as octets, the last filled up."""
+    return link1.octets_of(bits + [filler] * (-len(bits) % 8))
+
+
 def sending():
     """Images sent from both levels, with every kind of refusal and wrong lengths."""
     stream = Stream(3)
@@ -864,12 +869,247 @@ def resumed():
     return cases
 
 
+# 02 Item 5: the receiver fed by octets.
+
+def handed_by_octets(window, octets):
+    """What an octet receiver with this window hands over: each frame's image, and behind which bit."""
+    frames = []
+    for number, octet in enumerate(octets):
+        window, (handed, bit, frame) = link1.hear_octet(window, octet)
+        if handed == 1:
+            frames.append((8 * number + bit, frame))
+    return frames
+
+
+def handed_by_levels(state, octets):
+    """What the first receiver in this state hands over when its levels decode to the bits of these octets."""
+    frames = []
+    for number, level in enumerate(levels_of(bits_of(octets), state[1]), 1):
+        state, (_, handed, frame) = link1.hear(state, level)
+        if handed == 1:
+            frames.append((number, frame))
+    return frames
+
+
+def found_in_turn(capture):
+    """The positions that searches find, from 0 and then from one behind the last that was found."""
+    positions = []
+    result, position = link1.search(capture, 0)
+    while result == link1.GOOD:
+        positions.append(position)
+        result, position = link1.search(capture, position + 1)
+    return positions
+
+
+def heard_alike(octets):
+    """02 Item 5: fresh receivers of both kinds hand over the same behind the same bits, and searches find just that."""
+    started, _ = link1.hear(link1.FRESH, 0)
+    frames, found = handed_by_octets(link1.IDLE, octets), found_in_turn(octets)
+    return (frames == handed_by_levels(started, octets) and found == link1.frames_in(octets)
+            and [bit for bit, _ in frames] == [position + 128 for position in found])
+
+
+def hears(runs):
+    """Runs of octets for a fresh octet receiver."""
+    assert all(heard_alike(octets) for octets in runs)
+    return [lines.hear_octets(octets) for octets in runs]
+
+
+def resumes(window, octets):
+    """An octet receiver with this window; the first receiver, once started with it, hands over the same."""
+    bits = tuple(link1.image_frame(window))
+    assert handed_by_octets(bits, octets) == handed_by_levels((1, 1, bits), octets)
+    return lines.resume_octets(window, octets)
+
+
+def octet_frames():
+    """Octets: a frame that ends at each of the eight bits, behind ones, behind zeros, behind random-looking bits."""
+    stream, runs = Stream(13), []
+    for number, octets in enumerate(HEARD):
+        for at in range(8):
+            before = 8 * ((number + at) % 4) + at
+            runs += [capture_of([bit] * before + bits_of(octets), bit) for bit in (1, 0)]
+            bits = stream.bits(before) + bits_of(octets)
+            runs.append(link1.octets_of(bits + stream.bits(-len(bits) % 8 + 8 * (at % 3))))
+    return hears(runs)
+
+
+def octet_runs_cut():
+    """Octets: runs that end 1 to 8 bits before a frame does, an octet earlier, at every octet; a last bit missing."""
+    runs = []
+    for at in range(8):
+        for octets in (HEARD[at], HEARD[(at + 3) % 8]):
+            run = capture_of([1] * at + bits_of(octets))
+            runs += [run[:-1], run[:-2]]
+        bits = [1] * at + bits_of(HEARD[(at + 5) % 8])[:-1]
+        runs += [capture_of(bits, 0), capture_of(bits + [0] + bits_of(Q))]
+    run = capture_of([1] * 3 + bits_of(HEARD[4], T))
+    return hears(runs + [run[:length] for length in range(len(run) + 1)])
+
+
+def octet_frames_in_turn():
+    """Octets: frames back to back at each alignment, and two frames with a gap of 1 to 9 ones or zeros."""
+    runs = []
+    for at in range(8):
+        before = [at % 2] * at
+        runs += [capture_of(before + bits_of(*HEARD[at:], *HEARD[:at]), 0), capture_of(before + bits_of(P, P, Q)),
+                 capture_of(before + bits_of(T, N, T, N), 0)]
+    for gap in range(1, 10):
+        one, two = HEARD[gap % 8], HEARD[(gap + 3) % 8]
+        for bit in (0, 1):
+            runs += [capture_of([1 - bit] * (at % 8) + bits_of(one) + [bit] * gap + bits_of(two), bit)
+                     for at in (gap, gap + 3, gap + 6)]
+    return hears(runs)
+
+
+def octet_false_locks():
+    """Octets: eight zeros and marks that lead into no frame, and the frame inside or behind; more than eight zeros."""
+    runs = []
+    for number, kept in enumerate((8, 9, 15, 16, 17, 24, 63, 64, 72, 100, 120, 127)):
+        runs += [capture_of([1] * (at % 8) + bits_of(N)[:kept] + bits_of(HEARD[at % 8]))
+                 for at in (number, number + 3, number + 6)]
+    for at in range(8):
+        runs.append(capture_of([1] * at + bits_of(T)[:16 + 8 * at] + bits_of(HEARD[(at + 1) % 8]), 0))
+        runs += [capture_of([0] * 8 + [1] * (at + 1) + bits_of(Q)),
+                 capture_of([0] * 8 + [1] + [0] * (at + 1) + bits_of(Q), 0)]
+    for number, mark in enumerate(link1.MARKS):
+        bits, octets = [1] * (number % 8) + bits_of(turned(N, mark)), HEARD[number % 8]
+        runs += [capture_of(bits + bits_of(octets)), capture_of(bits[:number % 8 + mark] + bits_of(octets))]
+    for zeros in range(1, 21):
+        runs.append(capture_of([1] * (5 * zeros % 8) + [0] * zeros + bits_of(HEARD[zeros % 8])))
+    return hears(runs)
+
+
+def octets_turned():
+    """Octets: each frame bit turned, where the frame ends with an octet and where it ends at bit 5."""
+    octets = image(FIRST["S4+"], SECOND["S5"])
+    return hears([capture_of([1] * before + bits_of(turned(octets, n))) for before in (0, 5) for n in range(1, 129)])
+
+
+def octet_frames_damaged():
+    """Octets: a frame with a bit of its start, a mark, a check bit or its final one turned, and a good one behind."""
+    return hears([capture_of([n % 2] * at + bits_of(turned(HEARD[at], n)) + [1] * (n % 3) + bits_of(HEARD[n % 8]))
+                  for at in range(8) for n in (1, 8, 9, 65, 121, 122, 127, 128)])
+
+
+# Octets that stand in turn for long; a sieve of zeros or of marks finds no quick way through them.
+STRETCHES = (b"\x00", b"\xff", b"\xfe", b"\x80", b"\x01", b"\x7f", b"\x00\x80")
+
+
+def stretched(octets, length):
+    """The first bits of these octets in turn."""
+    return (bits_of(octets) * (length // (8 * len(octets)) + 1))[:length]
+
+
+def framed(octets, before, frame, behind):
+    """A capture of these octets in turn, with a frame behind so many bits and at least so many bits behind it."""
+    bits = stretched(octets, before) + bits_of(frame)
+    length = behind + -(len(bits) + behind) % 8
+    return link1.octets_of(bits + stretched(octets, len(bits) + length)[len(bits):])
+
+
+def octet_stretches():
+    """Octets: long stretches of one octet or two in turn, and a frame behind them at each alignment."""
+    runs = [link1.octets_of(stretched(octets, 8 * length)) for octets in STRETCHES for length in (1, 16, 17, 40, 300)]
+    runs += [framed(octets, 192 + at, HEARD[(at + number) % 8], 8 * (at % 3))
+             for number, octets in enumerate(STRETCHES) for at in range(8)]
+    return hears(runs)
+
+
+def octets_before_the_first():
+    """Octets: what would be a frame if bits before the first octet counted, and a good frame behind it."""
+    runs = []
+    for octets in (T, P, Q, HEARD[4]):
+        runs += [capture_of(bits_of(octets)[-kept:]) for kept in (*range(127, 119, -1), 112, 104, 64, 8, 1)]
+    for kept in range(127, 119, -1):
+        runs.append(capture_of(bits_of(HEARD[kept % 8])[-kept:] + bits_of(HEARD[(kept + 1) % 8]), 0))
+    return hears(runs)
+
+
+def octets_of_noise():
+    """Octets: random-looking ones, and frames among them."""
+    stream = Stream(14)
+    runs = [stream.octets(40) for _ in range(24)]
+    for _ in range(32):
+        bits = stream.bits(stream.below(100)) + bits_of(stream.good_image()) + stream.bits(stream.below(40))
+        bits += bits_of(word_image(stream.word(), stream.word()))
+        runs.append(link1.octets_of(bits + stream.bits(-len(bits) % 8)))
+    return hears(runs)
+
+
+def lacking(octets, j, bit):
+    """A window that holds an image but for its last j bits; before it the other bits are these."""
+    return link1.octets_of([bit] * j + bits_of(octets)[:-j])
+
+
+def completing(octets, j, bit):
+    """The octet with the last j bits of an image and other bits behind them."""
+    return link1.octets_of(bits_of(octets)[-j:] + [bit] * (8 - j))
+
+
+def octet_windows():
+    """Octet receivers given by hand: frames that lack 1 to 8 bits, whole ones, windows of zeros and of ones."""
+    cases = []
+    for number, octets in enumerate(HEARD):
+        for j in range(1, 9):
+            window = lacking(octets, j, (number + j) % 2)
+            cases.append(resumes(window, completing(octets, j, number % 2)))
+            if number % 2 == 0:
+                cases.append(resumes(window, completing(turned(octets, 128), j, 1)))
+        cases += [resumes(octets, behind) for behind in (b"", b"\x00", b"\xff", b"\x80", octets, Q[:15] + b"\x9c")]
+    zeros, ones = bytes(16), bytes([255]) * 16
+    for window in (zeros, ones):
+        cases += [resumes(window, octets) for octets in (b"", b"\x00", b"\xff", b"\x01" * 20, Q, Q[1:],
+                                                         capture_of(bits_of(P)[5:]), zeros, ones)]
+    return cases
+
+
+def octet_windows_damaged():
+    """Octet receivers given by hand: a frame would end at bit j but for a bit turned in it; a good one behind it."""
+    cases = []
+    for j in range(1, 9):
+        for number, n in enumerate((1, 8, 9, 57, 60, 64, 113, 121, 122, 127, 129 - j)):
+            octets = turned(HEARD[(j + number) % 8], n)
+            cases.append(resumes(lacking(octets, j, number % 2), completing(octets, j, 1)))
+        for octets in (HEARD[j - 1], turned(HEARD[j - 1], 73)):
+            cases.append(resumes(lacking(octets, j, 1), capture_of(bits_of(octets)[-j:] + bits_of(P), 0)))
+    return cases
+
+
+def octet_windows_random():
+    """Octet receivers given by hand: random-looking windows and octets, frames among them with a bit turned or none."""
+    stream = Stream(15)
+    cases = [resumes(stream.octets(16), stream.octets(1 + stream.below(4))) for _ in range(60)]
+    for number in range(120):
+        octets, lack = stream.good_image(), 1 + stream.below(40)
+        if number % 3 == 0:
+            octets = turned(octets, 1 + stream.below(128))
+        bits = stream.bits(lack) + bits_of(octets)
+        bits += stream.bits(-len(bits) % 8 + 8 * stream.below(2))
+        run = link1.octets_of(bits)
+        cases.append(resumes(run[:16], run[16:]))
+    return cases
+
+
+def backwards(octets):
+    """Octets with the bits of each in the other order."""
+    return b"".join(link1.octets_of(bits_of([octet])[::-1]) for octet in octets)
+
+
+def octets_backwards():
+    """Octets whose bits, read least significant first, would be a frame or complete one; frames read from behind."""
+    same_both_ways = bytes([0] + [0x81] * 14 + [0xff])
+    runs = [backwards(octets) for octets in HEARD] + [octets[::-1] for octets in HEARD]
+    runs += [backwards(octets[::-1]) for octets in HEARD] + [same_both_ways, same_both_ways + backwards(Q)]
+    runs += [backwards(capture_of([1] * at + bits_of(HEARD[at], HEARD[(at + 1) % 8]), 0)) for at in range(1, 8)]
+    cases = hears(runs)
+    for j in range(1, 9):
+        for turn, octets in enumerate(HEARD[j % 2::2]):
+            cases.append(resumes(lacking(octets, j, 1), backwards(completing(octets, j, turn % 2))))
+    return cases
+
+
 # 01 'Orders of checks', search.
-
-def capture_of(bits, filler=1):
-    """These bits as octets, the last filled up."""
-    return link1.octets_of(bits + [filler] * (-len(bits) % 8))
-
 
 def aligned_captures():
     """A frame at each alignment behind ones and behind zeros, searched from around it and from around the end."""
@@ -932,6 +1172,77 @@ def long_captures():
              lines.search(524152, longest[1:] + Q), lines.search(0, bytes(3000))]
     for start in (17, 255, 256, 257, 65535, 65536, 65537, 524288, 524289, 2 ** 32, 2 ** 32 + 128, 2 ** 40 - 1, 2 ** 40):
         cases += [lines.search(start, b""), lines.search(start, P), lines.search(start, T + N)]
+    return cases
+
+
+def striped_captures():
+    """Captures of FE, 7F, 80, 01, 00 80 in turn, without a frame and with one at each alignment, from around it."""
+    cases = []
+    for number, octets in enumerate(STRETCHES[2:]):
+        for length, start in ((16, 0), (17, 0), (17, 7), (40, 7)):
+            cases.append(lines.search(start, link1.octets_of(stretched(octets, 8 * length))))
+        for at in range(8):
+            position = 64 + 8 * (at % 3) + at
+            capture = framed(octets, position, HEARD[(number + at) % 8], 8 * (at % 4))
+            cases += [lines.search(start, capture) for start in (0, position - 1, position, position + 1)]
+    return cases
+
+
+def false_lock_captures():
+    """A false lock before a frame, and a frame with a bit of its framing turned before a good one, unaligned."""
+    cases = []
+    for number, kept in enumerate((8, 9, 10, 15, 16, 17, 24, 63, 64, 72, 100, 120, 127)):
+        cases += [lines.search(at, capture_of([1] * at + bits_of(false)[:kept] + bits_of(HEARD[number % 8])))
+                  for at, false in ((number % 8, N), ((number + 3) % 8, T))]
+    for number, n in enumerate(FRAMING):
+        for octets, at in ((HEARD[number % 8], number % 8), (Q, (number + 5) % 8)):
+            cases.append(lines.search(at, capture_of([1] * at + bits_of(turned(octets, n), P))))
+    return cases
+
+
+def every_start():
+    """A short capture with two frames, searched from each of its first positions and from around the second."""
+    capture = capture_of([1] * 10 + [0] * 3 + bits_of(HEARD[5]) + [0] * 4 + bits_of(HEARD[7]), 0)
+    return [lines.search(start, capture) for start in (*range(41), 144, 145, 146)]
+
+
+def frames_at_the_end():
+    """Captures of 16 to 40 octets with a frame at the very end, whole and cut by an octet."""
+    stream, cases = Stream(16), []
+    for length in range(16, 41):
+        before = (b"\x80" * 24, b"\xfe" * 24, stream.octets(24))[length % 3][:length - 16]
+        capture, position = before + HEARD[length % 8], 8 * len(before)
+        cases += [lines.search(start, capture) for start in (0, position, position + 1)]
+        cases.append(lines.search(0, capture[:-1]))
+    return cases
+
+
+def marked(stream, count):
+    """So many groups with good marks and random-looking bits, none of them a start group."""
+    return [bit for _ in range(count) for bit in [1] + stream.bits(7)]
+
+
+def marks_in_step():
+    """A frame between groups whose marks are in step with its own, at each alignment; without its start group too."""
+    stream, cases = Stream(17), []
+    for at in range(8):
+        for number, around in enumerate((marked(stream, 16), bits_of(b"\x80" * 16))):
+            octets, position = HEARD[(at + 4 * number) % 8], at + 64
+            before, behind = [1] * at + around[:64], around[64:]
+            capture = capture_of(before + bits_of(octets) + behind)
+            cases += [lines.search(start, capture) for start in (0, position - 1, position, position + 1)]
+            cases.append(lines.search(at, capture_of(before + bits_of(b"\x80" + octets[1:]) + behind)))
+    return cases
+
+
+def frames_from_each_octet():
+    """A frame that begins in each of the octets 0 to 17 of a capture filled with 80, C0, FE or AA."""
+    cases = []
+    for number, octet in enumerate((0x80, 0xc0, 0xfe, 0xaa)):
+        for at in range(18):
+            position = 8 * at + (3 * at + 5 * number) % 8
+            capture = framed(bytes([octet]), position, HEARD[(at + number) % 8], 8 * (17 - at))
+            cases += [lines.search(start, capture) for start in (0, position + 1)]
     return cases
 
 
@@ -1139,6 +1450,14 @@ def other_writings():
               ("close S0 S0", "2 0 0 x"), ("open", "2 0 0"), ("verdict", "2 0 0"), ("send 0 0", "2 0 0 :"),
               ("track_text 7", "2 0 0 x"), ("track_number", "2 0 0"), ("search 0", "10 0 0"),
               ("search 1099511627776", "9 0 0")]
+    for text, octets in (("", b""), (" x", b""), (" x x", b""), (" :0 x x80*14 xff", N),
+                         (" x00c480*13 xbb =01 :01*3", P + b"01\x00\x01\x01\x01")):
+        cases.append(("hear_octets" + text, hears([octets])[0][1]))
+    for text, octets in (("x00*40", bytes(40)), ("x00*16", bytes(16)), ("xff*17", b"\xff" * 17),
+                         ("x00c480*13 xbb x", P), ("xff00 xba*14 xff", b"\xff" + T),
+                         ("x5a =abc x00*12 :09", b"Zabc" + bytes(13) + b"\t"),
+                         ("=0123456789abcdef01", b"0123456789abcdef01")):
+        cases.append(("resume_octets " + text, resumes(octets[:16], octets[16:])[1]))
     cases += [("", ""), ("", "")]
     cases += [(text, text) for text in ("#", "##", "#note", "# two  spaces and one at the end ", "# verdict x00",
                                         "#\x00\x01\t\r\x7f\x80\xc3\xa9\xff odd octets")]
@@ -1166,6 +1485,8 @@ def odd_numbers():
     texts += ["shift S4 number 1 quality 1 x 1 y 1 by %s and" % word for word in words + ["2147483648", "-2147483649"]]
     texts += ["shift S4 number 1 quality 1 x 1 y 1 by and %s" % word for word in words + ["2147483648", "-2147483649"]]
     texts += ["hear :0*" + word for word in words + ["0", "-1", "65665", ""]]
+    texts += ["hear_octets x00*" + word for word in words + ["0", "-1", "65665", ""]]
+    texts += ["resume_octets x00*" + word for word in words + ["0", "-1", "15", "65665", ""]]
     return [lines.not_understood(text) for text in texts]
 
 
@@ -1232,7 +1553,17 @@ def odd_lines():
              "label 5", "close S0 S9+ x00*16", "close S9 S9 x00*16", "close " + s9, "close %s x00*16" % s9,
              "close %s S9 x00*16" % s9, "close S9 %s x00*16" % s9, "shift S9 by and", "shift " + s9,
              "shift %s by 1" % s9, "shift %s and" % s9, "refusal_inside", "refusal_inside 1", "refusal_inside 1 2",
-             "refusal_inside 1 2 3 4", "refusal_inside 1 2 3 ", "refusal_inside 1 2 x03", "refusal_of 1 2 3"]
+             "refusal_inside 1 2 3 4", "refusal_inside 1 2 3 ", "refusal_inside 1 2 x03", "refusal_of 1 2 3",
+             "hear_octet", "hear_octet x00", "Hear_octets x00", "HEAR_OCTETS x00", "hear_octets01", "hear_octetsx00",
+             "hear_octets_ x00", "hear octets x00", "hear_octets ", "hear_octets 01", "hear_octets 0", "hear_octets x0",
+             "hear_octets x000", "hear_octets xBA", "hear_octets x0g", "hear_octets :01 2", "hear_octets x00 ",
+             "hear_octets  x00", "hear_octets x00  x00", "hear_octets x 00", "hear_octets x*3", "hear_octets x00:0",
+             "hear_octets x00*40000 :1*25665", "hear_octets x00*65664 x00", "hear_octets :0\x7f1", "hear_octets x00\r",
+             "hear_octets\tx00", "resume_octets", "resume_octets ", "resume_octets x", "resume_octets x00",
+             "resume_octets x00*15", "resume_octets x00*14 :0", "resume_octets x00*8 x00*7", "resume_octets 0 x00*16",
+             "resume_octets 1 0 x00*16", "resume_octets :0 0 x00*16", "resume_octets x00*16 0", "resume_octets x00*16 ",
+             "resume_octet x00*16", "Resume_octets x00*16", "resume_octetsx00*16", "resume octets x00*16",
+             "resume_octets x00*65664 x00", "resume_octets =0123456789abcde"]
     cases = []
     for number, text in enumerate(texts):
         cases.append(lines.not_understood(text))
@@ -1252,10 +1583,13 @@ GROUPS = (examples, names, pairs_closed, pairs_opened, labels_opened, whole_mess
           broken_patterns, spare_beside_codes, troubles_closed, codes_too_wide, random_troubles, both_wrong_opened,
           both_wrong_closed, frame_bits, check_bits, octets_judged, lengths, order_of_opening, order_of_closing,
           order_of_sending, sending, frames_heard, noise_heard, false_locks, refused_levels, frames_in_turn,
-          faulty_runs, turned_runs, cut_runs, resumed, aligned_captures, two_frame_captures, damaged_captures,
-          plain_captures, long_captures, shifts_around_steps, shifts_by_lists, shift_limits, shift_contents,
-          shift_troubles, order_of_shifting, altitudes, text_characters, texts, other_writings, odd_numbers,
-          odd_messages, odd_lines, last_line)
+          faulty_runs, turned_runs, cut_runs, resumed, octet_frames, octet_runs_cut, octet_frames_in_turn,
+          octet_false_locks, octets_turned, octet_frames_damaged, octet_stretches, octets_before_the_first,
+          octets_of_noise, octet_windows, octet_windows_damaged, octet_windows_random, octets_backwards,
+          aligned_captures, two_frame_captures, damaged_captures, plain_captures, long_captures, striped_captures,
+          false_lock_captures, every_start, frames_at_the_end, marks_in_step, frames_from_each_octet,
+          shifts_around_steps, shifts_by_lists, shift_limits, shift_contents, shift_troubles, order_of_shifting,
+          altitudes, text_characters, texts, other_writings, odd_numbers, odd_messages, odd_lines, last_line)
 
 
 def all_cases():

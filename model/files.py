@@ -3,6 +3,7 @@
 import os
 
 import cases
+import hearings
 import listings
 
 TREE = os.path.dirname(os.path.dirname(os.path.abspath(__file__)))
@@ -10,4 +11,5 @@ TREE = os.path.dirname(os.path.dirname(os.path.abspath(__file__)))
 
 def made_files():
     calls, answers = cases.replay_files()
-    return [("crates/replay/stdin", calls), ("crates/replay/stdout", answers)] + listings.listed_files()
+    replayed = [("crates/replay/stdin", calls), ("crates/replay/stdout", answers)]
+    return replayed + listings.listed_files() + hearings.heard_files()

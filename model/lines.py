@@ -125,6 +125,25 @@ def resume(started, last, window, levels):
     return line("resume", started, last, *octet_parts(window), *level_parts(levels)), heard(state, levels)
 
 
+def heard_octets(window, octets):
+    """The answer to a run of octets: what is not silent, then the window."""
+    parts = []
+    for number, octet in enumerate(octets, 1):
+        window, (handed, bit, image) = link1.hear_octet(window, octet)
+        if handed == 1:
+            parts += ["at", number, handed, bit, octet_part(image)]
+    return line(*parts, "state", octet_part(link1.image_of(window)))
+
+
+def hear_octets(octets):
+    return line("hear_octets", *octet_parts(octets)), heard_octets(link1.IDLE, octets)
+
+
+def resume_octets(window, octets):
+    return (line("resume_octets", *octet_parts(window), *octet_parts(octets)),
+            heard_octets(tuple(link1.image_frame(window)), octets))
+
+
 def search(start, capture):
     result, position = link1.search(capture, start)
     return (line("search", start, *octet_parts(capture)),

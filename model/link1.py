@@ -190,7 +190,7 @@ def frame_of(first_bits, second_bits):
 
 def frame_verdict(frame):
     """01 'Orders of checks': 3, 4, 5."""
-    if any(frame[n] == 1 for n in range(1, 9)):
+    if 1 in frame[1:9]:
         return 3, 0, 0
     if any(frame[n] == 0 for n in MARKS):
         return 4, 0, 0
@@ -286,8 +286,11 @@ def send(previous, image, buffer):
         levels.append(previous)
     return GOOD, bytes(levels)
 
+# A fresh receiver's last 128 bits, those of an idle line: ones (001 Annex A Appendix 3 paragraph 5).
+IDLE = (None,) + (1,) * 128
+
 # 01 'From levels to a frame', the receiver: started, the last level, the last 128 bits (ones where none has come yet).
-FRESH = (0, 0, (None,) + (1,) * 128)
+FRESH = (0, 0, IDLE)
 
 def hear(state, level):
     """The state comes back with the answer: number, place and bit, 1 if a frame is handed over, the image."""
@@ -300,6 +303,26 @@ def hear(state, level):
     if frame_verdict(window) == GOOD:
         return state, (GOOD, 1, image_of(window))
     return state, (GOOD, 0, bytes(16))
+
+def hear_octet(window, octet):
+    """02 Item 5, the receiver fed by octets: its last 128 bits come back with the answer, and nothing is refused.
+
+    The answer: 1 if a good frame ended in the octet, at which of its bits 1 to 8, the image; zeros where none ended.
+    The octet's bits come most significant first; at bit j the last 128 are the window's from j + 1 on and j of them.
+    """
+    bits = window[1:] + tuple(octet_bits([octet]))
+    last = {j: (None,) + bits[j:j + 128] for j in range(1, 9)}
+    ended = [j for j in range(1, 9) if frame_verdict(last[j]) == GOOD]
+    assert len(ended) <= 1  # 02 Item 5: at most one can end there
+    if ended:
+        return last[8], (1, ended[0], image_of(last[ended[0]]))
+    return last[8], (0, 0, bytes(16))
+
+def frames_in(capture):
+    """Every position at which a good frame lies whole, rising; the first bit of a capture has position 0."""
+    bits = octet_bits(capture)
+    return [position for position in range(len(bits) - 127)
+            if frame_verdict([None] + bits[position:position + 128]) == GOOD]
 
 def search(capture, start):
     """01 'Orders of checks': 2, 9, 10; the first bit of a capture has position 0."""

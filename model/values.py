@@ -1,4 +1,6 @@
-"""Values that the cases and the listed files share."""
+"""Values that the cases, the listed files and the heard captures share."""
+
+import functools
 
 import link1
 
@@ -101,6 +103,13 @@ def label_bits(label):
     return bits
 
 
+@functools.lru_cache(maxsize=None)
+def values_of(word, first, last):
+    """The values that a field may have, codes that are not used left out."""
+    lowest, highest = link1.field_range(word, first, last)
+    return tuple(value for value in range(lowest, highest + 1) if value not in link1.NOT_USED.get(word, ()))
+
+
 class Stream:
     """Random-looking numbers, the same on every run."""
 
@@ -114,14 +123,16 @@ class Stream:
     def octets(self, length):
         return bytes(self.below(256) for _ in range(length))
 
+    def bits(self, length):
+        return [self.below(2) for _ in range(length)]
+
     def word(self):
         return {n: self.below(2) for n in range(1, 50)}
 
     def message(self, kind):
         fields = {}
         for word, first, last in link1.FIELDS[kind]:
-            lowest, highest = link1.field_range(word, first, last)
-            values = [value for value in range(lowest, highest + 1) if value not in link1.NOT_USED.get(word, ())]
+            values = values_of(word, first, last)
             fields[word] = values[self.below(len(values))]
             if word in link1.PRESENCE and self.below(3) == 0:
                 fields[word] = None

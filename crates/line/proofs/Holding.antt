@@ -4,14 +4,14 @@ use mathlib.Core.Bool.{Bool, true, false}
 use mathlib.Core.List.{List, [], _∷_, _++_, append-assoc, append-nil}
 use Prim.Native.Nat.{ℕ, _+_, _-_, _/_, _%_, _^_, _≤_, _<_}
 use native.Mathlib.Omega.{arith}
-use borrow.Author.Tests.{le-leb, lt-leb, ltb-false}
+use borrow.Author.Tests.{le-leb, lt-leb, le-ltb, ltb-false}
 use lib.Dec.{lit<}
 use lib.ListN.{length, getD}
 use lib.Pow.{shr-shr}
 use Rattle.bits.specs.Tests.{pick, both, every}
 use Rattle.bits.specs.Octets.{bitAt, octetsOf}
 use Rattle.frame.specs.Frame.{goodFrame}
-use Rattle.line.specs.Levels.{refused, differ, kept, bitsAfter, bitsOf}
+use Rattle.line.specs.Levels.{refused, differ, kept, bitsAfter, bitsOf, decoded}
 use Rattle.line.specs.Machine.{windowImage, freshOf, accepted, holdsFrame, answerOf, heardOf, runFrom, run}
 use Rattle.line.specs.Hearing.{lastFrame, endsGood, toldOf, told}
 use Rattle.line.specs.declared.Window.{Window}
@@ -24,7 +24,7 @@ use Rattle.line.proofs.WindowLaws.{Bits, none, valFrom, val-snoc, val-d
 use Rattle.line.proofs.LevelLaws.{lastOf, last-snoc, differ-le, bits-append, bits-bits, kept-snoc}
 
 -- the ones of an idle line
-abbrev idle : ℕ
+abbrev pub idle : ℕ
 idle = 2 ^ 128 - 1
 
 abbrev some : List ℕ → Bool
@@ -128,6 +128,16 @@ run-holds s ks (l ∷ ls) h = go (refused l) refl (run-holds s ks ls h) (run-hol
     go true e a b = rw e a
     go false e a b = rw e (rw (append-assoc ks (l ∷ []) (kept ls)) at b)
 
+-- the window after any levels holds the decoded bits
+pub run-window : (ls : List ℕ) → Low (run ls .window) (valFrom idle (decoded ls))
+run-window ls = run-holds freshOf [] ls fresh-holds .window
+
+-- a level that is taken is answered by what the receiver then holds
+pub heard-answer : (ls : List ℕ) (l : ℕ) → l ≤ 1 → heardOf (run ls) l ≡ answerOf (run (ls ++ l ∷ []))
+heard-answer ls l h =
+    let e : heardOf (run ls) l ≡ answerOf (accepted (run ls) l) = rw (le-ltb 1 l h) in
+    e ∙ ap answerOf (sym (run-snoc freshOf ls l ∙ ap (λ (x : Heard). x .receiver) e))
+
 -- after any levels, any level is answered as the decoded bits say
 pub heard-told : (ls : List ℕ) (l : ℕ) → heardOf (run ls) l ≡ told ls l
 heard-told ls l = go (refused l) refl
@@ -135,8 +145,7 @@ heard-told ls l = go (refused l) refl
     go : (t : Bool) → refused l ≡ t → heardOf (run ls) l ≡ told ls l
     go true e = rw e
     go false e =
-        let h : heardOf (run ls) l ≡ answerOf (accepted (run ls) l) = rw e in
-        let r : accepted (run ls) l ≡ run (ls ++ l ∷ []) = sym (run-snoc freshOf ls l ∙ ap (λ (x : Heard). x .receiver) h) in
-        h
-        ∙ answer-is (accepted (run ls) l) (kept ls ++ l ∷ []) (ls ++ l ∷ []) (accept-holds (run ls) (kept ls) l (run-holds freshOf [] ls fresh-holds)) r
-        ∙ rw (e, kept-snoc ls l (ltb-false 1 l e))
+        let small : l ≤ 1 = ltb-false 1 l e in
+        heard-answer ls l small
+        ∙ answer-is (run (ls ++ l ∷ [])) (kept (ls ++ l ∷ [])) (ls ++ l ∷ []) (run-holds freshOf [] (ls ++ l ∷ []) fresh-holds) refl
+        ∙ rw e

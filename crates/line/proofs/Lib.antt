@@ -1,5 +1,5 @@
-mod WindowLaws
-mod LevelLaws
+pub mod WindowLaws
+pub mod LevelLaws
 mod SendingLaws
-mod Holding
+pub mod Holding
 pub mod Demand3

@@ -2,20 +2,19 @@
 use mathlib.Core.Path.{_≡_, refl, sym, ap, ap₂, subst, _∙_}
 use mathlib.Core.List.{List, [], _∷_, _++_}
 use Prim.Native.Nat.{ℕ, zero, suc, _+_, _-_, _*_, _/_, _%_, _^_, _≤_, _<_}
-use native.Mathlib.Nat.{add-zero, div-one, mod-lt}
+use native.Mathlib.Nat.{div-one, mod-lt, mod-eq-of-lt}
 use native.Mathlib.Numerals.{add-one}
 use native.Mathlib.Omega.{arith}
-use lib.Arith.{mod-mul}
 use lib.Dec.{lit<}
 use lib.Bits.{bitOr, or-shifted}
 use lib.ListN.{length, getD}
-use lib.Pow.{shr-shr, mod-pow-add, mod-mod-pow, field}
+use lib.Pow.{shr-shr, mod-pow-add, mod-mod-pow, field, high, low}
 use Rattle.bits.specs.Numbers.{tab}
 use Rattle.bits.specs.Octets.{bitAt}
 use Rattle.line.specs.Machine.{pushed, windowImage}
 use Rattle.line.specs.declared.Window.{Window}
 use Rattle.bits.proofs.TestLaws.{by-lt}
-use Rattle.bits.proofs.NumberLaws.{getD-tab, tab-lt}
+use Rattle.bits.proofs.NumberLaws.{getD-tab, tab-lt, shl-low}
 
 -- ---- the number of a run of bits
 
@@ -61,40 +60,70 @@ val-bit a (more {b = b} {bs = r} l t) k h =
     ap (λ (n : ℕ). valFrom (a * 2 + b) r / 2 ^ n % 2) e ∙ ap (λ (n : ℕ). n % 2) (val-div (a * 2 + b) t) ∙ omega arith
     ∙ ap (λ (n : ℕ). getD (b ∷ r) n 0) (sym z))
 
--- ---- a bit pushed
+-- ---- bits pushed
 
--- a word shifted left by one, and a bit put in
-pub shifted-in : (x b : ℕ) → b < 2 → bitOr ((x * 2 ^ 1) % 2 ^ 64) b ≡ x % 2 ^ 63 * 2 + b
-shifted-in x b h =
-    let e : x * 2 / 2 ≡ x = omega arith in
-    let z : x * 2 % 2 ≡ 0 = omega arith in
-    let q : x * 2 % (2 ^ 63 * 2) ≡ x * 2 / 2 % 2 ^ 63 * 2 + x * 2 % 2 = mod-mul (x * 2) (omega arith) (omega arith) in
-    ap (λ (n : ℕ). bitOr n b) (q ∙ ap₂ (λ (m n : ℕ). m % 2 ^ 63 * 2 + n) e z ∙ add-zero (x % 2 ^ 63 * 2)) ∙ or-shifted (x % 2 ^ 63) 1 b h
+-- a word shifted left by j, and j bits put in
+pub shifted-in : (x u j : ℕ) → j ≤ 64 → u < 2 ^ j → bitOr ((x * 2 ^ j) % 2 ^ 64) u ≡ x % 2 ^ (64 - j) * 2 ^ j + u
+shifted-in x u j k small = ap (λ (n : ℕ). bitOr n u) (shl-low x j 64 k) ∙ or-shifted (x % 2 ^ (64 - j)) j u small
 
 -- the window holds the low 128 bits of v
 pub record Low (w : Window) (v : ℕ) : Type 0 where
   pub older : w .older ≡ v / 2 ^ 64 % 2 ^ 64
   pub newer : w .newer ≡ v % 2 ^ 64
 
-half : (v b : ℕ) → b ≤ 1 → (v * 2 + b) / 2 ≡ v
-half v b h = omega arith
+-- the low 128 bits of the number v * 2 ^ j + u, by those of v
+module _ (v u j : ℕ) (few : j ≤ 64) (small : u < 2 ^ j) where
+  whole : 64 ≡ 64 - j + j
+  whole = omega arith
 
-odd : (v b : ℕ) → b ≤ 1 → (v * 2 + b) % 2 ≡ b
-odd v b h = omega arith
+  back : 64 ≡ j + (64 - j)
+  back = omega arith
 
-push-newer : (v b : ℕ) → b ≤ 1 → v % 2 ^ 64 % 2 ^ 63 * 2 + b ≡ (v * 2 + b) % 2 ^ 64
-push-newer v b h =
-    let e : (v * 2 + b) % (2 ^ 63 * 2) ≡ (v * 2 + b) / 2 % 2 ^ 63 * 2 + (v * 2 + b) % 2 = mod-mul (v * 2 + b) (omega arith) (omega arith) in
-    rw (mod-mod-pow v 1 63) (sym (e ∙ rw (half v b h, odd v b h)))
+  -- the low bits of a number are those of its low part
+  inner : (n : ℕ) → n % 2 ^ 64 % 2 ^ (64 - j) ≡ n % 2 ^ (64 - j)
+  inner n = ap (λ (m : ℕ). n % 2 ^ m % 2 ^ (64 - j)) back ∙ mod-mod-pow n j (64 - j)
 
-push-older : (v b : ℕ) → b ≤ 1 → v / 2 ^ 64 % 2 ^ 64 % 2 ^ 63 * 2 + v % 2 ^ 64 / 2 ^ 63 ≡ (v * 2 + b) / 2 ^ 64 % 2 ^ 64
-push-older v b h =
-    let e : (v * 2 + b) / 2 ^ 64 ≡ v / 2 ^ 63 = sym (shr-shr (v * 2 + b) 1 63) ∙ ap (λ (n : ℕ). n / 2 ^ 63) (half v b h) in
-    rw (mod-mod-pow (v / 2 ^ 64) 1 63, field v 1 63, e)
-    (sym (mod-pow-add (v / 2 ^ 63) 63 1 ∙ ap (λ (n : ℕ). n % 2 ^ 63 * 2 + v / 2 ^ 63 % 2) (shr-shr v 63 1)))
+  pub newer-by : (v * 2 ^ j + u) % 2 ^ 64 ≡ v % 2 ^ 64 % 2 ^ (64 - j) * 2 ^ j + u
+  newer-by =
+      ap (λ (m : ℕ). (v * 2 ^ j + u) % 2 ^ m) whole
+      ∙ mod-pow-add (v * 2 ^ j + u) (64 - j) j
+      ∙ ap₂ (λ (m n : ℕ). m % 2 ^ (64 - j) * 2 ^ j + n) (high v j small) (low v j small)
+      ∙ ap (λ (m : ℕ). m * 2 ^ j + u) (sym (inner v))
+
+  pub older-by : (v * 2 ^ j + u) / 2 ^ 64 % 2 ^ 64 ≡ v / 2 ^ 64 % 2 ^ 64 % 2 ^ (64 - j) * 2 ^ j + v % 2 ^ 64 / 2 ^ (64 - j)
+  older-by =
+      let e : (v * 2 ^ j + u) / 2 ^ 64 ≡ v / 2 ^ (64 - j) =
+      ap (λ (m : ℕ). (v * 2 ^ j + u) / 2 ^ m) back ∙ sym (shr-shr (v * 2 ^ j + u) j (64 - j)) ∙ ap (λ (m : ℕ). m / 2 ^ (64 - j)) (high v j small) in
+      let f : v / 2 ^ (64 - j) / 2 ^ j ≡ v / 2 ^ 64 = shr-shr v (64 - j) j ∙ ap (λ (m : ℕ). v / 2 ^ m) (sym whole) in
+      let g : v / 2 ^ (64 - j) % 2 ^ j ≡ v % 2 ^ 64 / 2 ^ (64 - j) =
+      sym (field v j (64 - j)) ∙ ap (λ (m : ℕ). v % 2 ^ m / 2 ^ (64 - j)) (sym back) in
+      ap (λ (m : ℕ). m % 2 ^ 64) e
+      ∙ ap (λ (m : ℕ). v / 2 ^ (64 - j) % 2 ^ m) whole
+      ∙ mod-pow-add (v / 2 ^ (64 - j)) (64 - j) j
+      ∙ ap₂ (λ (m n : ℕ). m % 2 ^ (64 - j) * 2 ^ j + n) f g
+      ∙ ap (λ (m : ℕ). m * 2 ^ j + v % 2 ^ 64 / 2 ^ (64 - j)) (sym (inner (v / 2 ^ 64)))
 
 pub push-low : (w : Window) (v b : ℕ) → b ≤ 1 → Low w v → Low (pushed w b) (v * 2 + b)
-push-low w v b h l = record { older = rw (l .older, l .newer) (push-older v b h); newer = rw (l .newer) (push-newer v b h) }
+push-low w v b h l =
+    record {
+      older = rw (l .older, l .newer) (sym (older-by v b 1 (omega arith) (omega arith)));
+      newer = rw (l .newer) (sym (newer-by v b 1 (omega arith) (omega arith)));
+    }
+
+-- a window that holds the low bits of a number is told by it
+abbrev pub windowOf : ℕ → Window
+windowOf v = record { older = v / 2 ^ 64 % 2 ^ 64; newer = v % 2 ^ 64 }
+
+pub low-is : (w : Window) (v : ℕ) → Low w v → w ≡ windowOf v
+low-is w v l = λ i. record { older = l .older i; newer = l .newer i }
+
+-- every window whose numbers fit holds the bits of some number
+pub low-self : (w : Window) → w .older < 2 ^ 64 → w .newer < 2 ^ 64 → Low w (w .older * 2 ^ 64 + w .newer)
+low-self w a b =
+    record {
+      older = sym (ap (λ (n : ℕ). n % 2 ^ 64) (high (w .older) 64 b) ∙ mod-eq-of-lt a);
+      newer = sym (low (w .older) 64 b);
+    }
 
 -- ---- the window's image
 

@@ -12,6 +12,7 @@ use Rattle.line.specs.Levels.{refused, differ}
 use Rattle.line.specs.declared.Window.{Window}
 use Rattle.line.specs.declared.Receiver.{Receiver}
 use Rattle.line.specs.declared.Heard.{Heard}
+use Rattle.line.specs.declared.Handed.{Handed}
 
 -- the window with one bit more, its oldest gone
 abbrev pub pushed : Window → ℕ → Window
@@ -29,6 +30,16 @@ windowImage w = eightOf (w .older) ++ eightOf (w .newer)
 abbrev pub noImage : List ℕ
 noImage = replicate 16 0
 
+-- whether a window is a good frame, and what it hands over: its octets if it is one, else zero octets
+unfoldable pub holdsFrame : Window → Bool
+holdsFrame w = goodFrame (bitAt (windowImage w))
+
+abbrev pub handedOf : Window → Handed
+handedOf w = record { frame = holdsFrame w; image = pick (holdsFrame w) (windowImage w) noImage }
+
+abbrev pub nothingHanded : Handed
+nothingHanded = record { frame = false; image = noImage }
+
 -- as after an idle line (001, Annex A, Appendix 3, paragraph 5): all ones, in which no start group begins
 abbrev pub freshOf : Receiver
 freshOf = record { started = false; last = 0; window = record { older = 2 ^ 64 - 1; newer = 2 ^ 64 - 1 } }
@@ -42,26 +53,17 @@ accepted s level =
       window = pick (s .started) (pushed (s .window) (differ (s .last) level)) (s .window);
     }
 
-unfoldable pub holdsFrame : Receiver → Bool
-holdsFrame s = goodFrame (bitAt (windowImage (s .window)))
+-- an answer: the state to go on with, a number, and what is handed over
+abbrev pub answerWith : Receiver → ℕ → Handed → Heard
+answerWith s number handed = record { receiver = s; refusal = numbered number; frame = handed .frame; image = handed .image }
 
--- no frame to hand over: the state, a number and zero octets
-abbrev pub nothingHeard : Receiver → ℕ → Heard
-nothingHeard s n = record { receiver = s; refusal = numbered n; frame = false; image = noImage }
-
--- the answer of a receiver that has taken a level: its window, if that is a good frame
+-- a level that is taken: what the window then hands over
 abbrev pub answerOf : Receiver → Heard
-answerOf s =
-    record {
-      receiver = s;
-      refusal = numbered success;
-      frame = holdsFrame s;
-      image = pick (holdsFrame s) (windowImage (s .window)) noImage;
-    }
+answerOf s = answerWith s success (handedOf (s .window))
 
--- a refusal hands back the state that it was given
+-- a refusal hands back the state that it was given, and hands over nothing
 abbrev pub refusedBy : Receiver → Heard
-refusedBy s = nothingHeard s badLevel
+refusedBy s = answerWith s badLevel nothingHanded
 
 abbrev pub heardOf : Receiver → ℕ → Heard
 heardOf s level = pick (refused level) (refusedBy s) (answerOf (accepted s level))

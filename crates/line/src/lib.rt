@@ -4,7 +4,7 @@ ghost use mathlib.Core.Path.{_≡_};
 ghost use Prim.Native.Nat.{_≤_};
 ghost use lib.ListN.{length};
 ghost use Rattle.line.specs.Levels.{differ};
-ghost use Rattle.line.specs.Machine.{pushed, windowImage, freshOf, accepted, nothingHeard, answerOf, heardOf};
+ghost use Rattle.line.specs.Machine.{pushed, windowImage, handedOf, nothingHanded, freshOf, accepted, answerWith, heardOf};
 ghost use Rattle.line.specs.Sending.{next, levelsAfter, imageBits, Sent};
 use refusal::Refusal;
 
@@ -51,6 +51,37 @@ impl Window {
             (b % 256) as u8,
         ]
     }
+}
+
+// What a window gives: its sixteen octets if they are a good frame, else zero octets.
+pub struct Handed {
+    pub frame: bool,
+    pub image: [u8; 16],
+}
+
+// No frame to hand over.
+fn hold_back() -> Handed
+    ensures { λ r. ⌜ r ≡ nothingHanded ⌝ }
+{
+    Handed {
+        frame: false,
+        image: [0u8; 16],
+    }
+}
+
+// Hands over the window if it is a good frame. Its first nine bits, the start group and the first mark, are tested before
+// an image is made.
+pub fn hand_over(window: Window) -> Handed
+    ensures { λ r. ⌜ r ≡ handedOf window ⌝ }
+{
+    if window.older >> 55 != 1 {
+        return hold_back();
+    }
+    let image = window.image();
+    if frame::verdict(&image).number == refusal::SUCCESS {
+        return Handed { frame: true, image };
+    }
+    hold_back()
 }
 
 // A receiver: whether a level has come, the last one, and the window.
@@ -113,36 +144,17 @@ impl Receiver {
         }
     }
 
-    // No frame to hand over: the state, the number and zero octets.
-    fn hear_nothing(self, number: u8) -> Heard
-        ensures { λ r. ⌜ r ≡ nothingHeard self number ⌝ }
+    // The answer: the state to go on with, the refusal, and what is handed over.
+    fn answer(self, number: u8, handed: Handed) -> Heard
+        ensures { λ r. ⌜ r ≡ answerWith self number handed ⌝ }
     {
+        let image = handed.image;
         Heard {
             receiver: self,
             refusal: Refusal::of(number),
-            frame: false,
-            image: [0u8; 16],
+            frame: handed.frame,
+            image,
         }
-    }
-
-    // Hands over the window if it is a good frame. The start group is tested before an image is made.
-    fn answer(self) -> Heard
-        ensures { λ r. ⌜ r ≡ answerOf self ⌝ }
-    {
-        let window = self.window;
-        if window.older >> 56 != 0 {
-            return self.hear_nothing(refusal::SUCCESS);
-        }
-        let image = window.image();
-        if frame::verdict(&image).number == refusal::SUCCESS {
-            return Heard {
-                receiver: self,
-                refusal: Refusal::of(refusal::SUCCESS),
-                frame: true,
-                image,
-            };
-        }
-        self.hear_nothing(refusal::SUCCESS)
     }
 
     // One level. A level that is neither 0 nor 1 is refused, 1, and counts for nothing.
@@ -150,9 +162,10 @@ impl Receiver {
         ensures { λ r. ⌜ r ≡ heardOf self level ⌝ }
     {
         if 1 < level {
-            return self.hear_nothing(refusal::BAD_LEVEL);
+            return self.answer(refusal::BAD_LEVEL, hold_back());
         }
-        self.accept(level).answer()
+        let next = self.accept(level);
+        next.answer(refusal::SUCCESS, hand_over(next.window))
     }
 }
 

@@ -6,12 +6,14 @@ use mathlib.Core.Bool.{Bool}
 use mathlib.Core.List.{List, [], _∷_, map}
 use Prim.Native.Nat.{ℕ, _-_}
 use lib.IntN.{ℤ, pos}
-use lib.ListN.{replicate}
+use lib.ListN.{length, replicate}
 use Rattle.refusal.specs.declared.Refusal.{Refusal}
 use Rattle.frame.specs.Frame.{verdictOf}
 use Rattle.line.specs.Machine.{heardOf, run}
 use Rattle.line.specs.Sending.{sendRefusal, sendLevels}
 use Rattle.line.specs.declared.Heard.{Heard}
+use Rattle.octets.specs.Feeding.{heardAt}
+use Rattle.octets.specs.declared.HeardOctet.{HeardOctet}
 use Rattle.capture.specs.Search.{searchOf, positionFound}
 use Rattle.capture.specs.Search as searching
 use Rattle.units.specs.Heights.{heightOf}
@@ -68,6 +70,8 @@ pub data Asked : Type 0 where
   send-after : ℕ → List ℕ → List ℕ → Asked
   -- a level for a fresh receiver that has had some levels
   hear-after : List ℕ → ℕ → Asked
+  -- octets for a fresh octet receiver: the answer to the last
+  hear-octets : List ℕ → Asked
   -- a capture to search from a start
   search-from : ℕ → List ℕ → Asked
   -- a text to make a track number of, a track number to write into a buffer
@@ -86,6 +90,7 @@ pub data Value : Type 0 where
   pair : Message → Message → Value
   buffer : List ℕ → Value
   heard : Bool → List ℕ → Value
+  heard-at : Bool → ℕ → List ℕ → Value
   message : Message → Value
   value : ℕ → Value
 
@@ -137,6 +142,9 @@ nameOf number b = tell (textRefusal number b) (buffer (textAfter number b))
 abbrev tellHeard : Heard → Came
 tellHeard h = tell (h .refusal) (heard (h .frame) (h .image))
 
+abbrev valueOctet : HeardOctet → Value
+valueOctet h = heard-at (h .frame) (h .bit) (h .image)
+
 unfoldable pub answer : Asked → Came
 answer (verdict-of image) = tell (verdictOf image) nothing
 answer (open-image image) = tell (opening.refusalOf (openOf image)) (valueOpened (openOf image))
@@ -145,6 +153,7 @@ answer (kind-named label) = tell (labels.refusalOf (namedOf label)) (valueNamed 
 answer (close-pair first second b) = tell (closeRefusal first second b) (buffer (closeImage first second b))
 answer (send-after level image b) = tell (sendRefusal image level b) (buffer (sendLevels image level b))
 answer (hear-after before level) = tellHeard (heardOf (run before) level)
+answer (hear-octets run) = told 0 0 (valueOctet (heardAt run (length run - 1)))
 answer (search-from start capture) =
     tell (searching.refusalOf (searchOf capture start)) (value (positionFound (searchOf capture start)))
 answer (number-of text) = tell (tracks.refusalOf (trackedOf (octets text))) (value (numberIn (trackedOf (octets text))))

@@ -6,7 +6,7 @@ use mathlib.Core.List.{List, [], _∷_, _++_, map}
 use Prim.Native.Nat.{ℕ, _+_, _-_, _*_, _/_, _%_, _^_}
 use lib.Dec.{eqb}
 use lib.IntN.{ℤ, pos, negsuc}
-use lib.ListN.{replicate, take, getD}
+use lib.ListN.{replicate, take, drop, getD}
 use Rattle.bits.specs.Tests.{pick, every}
 use Rattle.bits.specs.Numbers.{numOf, sumOf, tab}
 use Rattle.bits.specs.Octets.{octetsOf}
@@ -21,6 +21,7 @@ use Rattle.frame.specs.Frame.{goodFrame, verdictOf}
 use Rattle.frame.specs.Words.{imageOf}
 use Rattle.line.specs.Machine.{holdsFrame}
 use Rattle.line.specs.Sending.{sendRefusal, sendLevels}
+use Rattle.octets.specs.Feeding.{taken, lastOf, endBit, fedTo}
 use Rattle.capture.specs.Search.{goodAt, firstGood, searchRefusal, searchOf}
 use Rattle.units.specs.Offsets.{within, areOffsets, sumZ}
 use Rattle.units.specs.Steps.{near}
@@ -39,8 +40,8 @@ use Rattle.pair.specs.Opening.{openRefusal, openOf}
 use Rattle.pair.specs.Closing.{closeRefusal, closeImage}
 use Rattle.pair.specs.Zeroed.{zeroedImage}
 use Rattle.shift.specs.Shift.{shiftRefusal, shiftedOf}
-use Rattle.link1.proofs.Asking.{verdict-of, open-image, kind-named, close-pair, send-after, hear-after, search-from, number-of, text-of, shift-by}
-use Rattle.link1.proofs.Asking.{nothing, pair, buffer, heard, message, value, told, toldBit, answer, Row, _⇒_, answers, expected, track, at, octets, levels}
+use Rattle.link1.proofs.Asking.{verdict-of, open-image, kind-named, close-pair, send-after, hear-after, hear-octets, search-from, number-of, text-of, shift-by}
+use Rattle.link1.proofs.Asking.{nothing, pair, buffer, heard, heard-at, message, value, told, toldBit, answer, Row, _⇒_, answers, expected, track, at, octets, levels}
 use Rattle.link1.proofs.Examples.{imageT}
 
 -- ---- labels and bit places (01, 'Messages'; S.9: 02, item 1)
@@ -286,6 +287,10 @@ levelsT0 = levels "0000000011010011001011001101001100101100110100110010110011010
 abbrev levelsT1 : List ℕ
 levelsT1 = levels "11111111001011001101001100101100110100110010110011010011001011001101001100101100110100110010110011010011001011001101001101010101"
 
+-- T behind three ones, and ones behind it
+abbrev shiftedT : List ℕ
+shiftedT = 0xe0 ∷ 0x17 ∷ replicate 13 0x57 ++ 0x5f ∷ 0xff ∷ []
+
 -- X one step beyond the range
 abbrev far : Message
 far = at (pos 4096)
@@ -415,6 +420,21 @@ hearing =
 pub hearing-hold : answers hearing ≡ expected hearing
 unfolding answer every sumOf goodFrame holdsFrame
 hearing-hold = refl
+
+-- hearing by octets (02, item 5): most significant bit first; the bit from 1 to 8; where there is no frame 0 and zero octets; bits before the
+-- first octet never count
+abbrev pub feeding : List Row
+feeding =
+    (hear-octets imageT ⇒ told 0 0 (heard-at true 8 imageT))
+    ∷ (hear-octets shiftedT ⇒ told 0 0 (heard-at true 3 imageT))
+    ∷ (hear-octets (imageT ++ 0xff ∷ []) ⇒ told 0 0 (heard-at false 0 noOctets))
+    ∷ (hear-octets (take 15 imageT ++ 0xfe ∷ []) ⇒ told 0 0 (heard-at false 0 noOctets))
+    ∷ (hear-octets (drop 1 imageT) ⇒ told 0 0 (heard-at false 0 noOctets))
+    ∷ []
+
+pub feeding-hold : answers feeding ≡ expected feeding
+unfolding answer every sumOf goodFrame holdsFrame taken lastOf endBit fedTo
+feeding-hold = refl
 
 -- searching: the first bit of a capture has position 0
 abbrev pub searching : List Row

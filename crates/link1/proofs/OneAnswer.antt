@@ -13,6 +13,8 @@ use Rattle.frame.proofs.verdict.Reads as verdict
 use Rattle.line.proofs.Receiver.fresh.Reads as fresh
 use Rattle.line.proofs.Receiver.step.Reads as step
 use Rattle.line.proofs.send.Reads as send
+use Rattle.octets.proofs.OctetReceiver.fresh.Reads as fresh-octets
+use Rattle.octets.proofs.OctetReceiver.step.Reads as step-octet
 use Rattle.capture.proofs.search.Reads as search-call
 use Rattle.capture.proofs.Found.refusal.Reads as found-refusal
 use Rattle.kind.proofs.label.Reads as label
@@ -51,7 +53,7 @@ at-one κs a r s e f p q = same p q
 pub inside-one : (κs : Lfts 0) (a : _) → One (inside.Post κs a)
 inside-one κs a r s e f p q = same p q
 
--- ---- levels, frames and captures
+-- ---- levels, octets, frames and captures
 
 pub verdict-one : (κs : Lfts 1) (a : _) → One (verdict.Post κs a)
 verdict-one κs a r s e f p q = same p q
@@ -64,6 +66,12 @@ step-one κs a r s e f p q = same p q
 
 pub send-one : (κs : Lfts 2) (a : _) → OneLeaving (send.Post κs a) (λ e. now (e .1 .1 .0))
 send-one κs a r s e f p q = (same (p .0) (q .0), same (p .1) (q .1))
+
+pub fresh-octets-one : (κs : Lfts 0) (a : _) → One (fresh-octets.Post κs a)
+fresh-octets-one κs a r s e f p q = same p q
+
+pub step-octet-one : (κs : Lfts 0) (a : _) → One (step-octet.Post κs a)
+step-octet-one κs a r s e f p q = same p q
 
 pub search-one : (κs : Lfts 1) (a : _) → One (search-call.Post κs a)
 search-one κs a r s e f p q = same p q

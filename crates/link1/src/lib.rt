@@ -18,7 +18,7 @@ pub use refusal::TOO_WIDE;
 pub use refusal::UNKNOWN_LABEL;
 pub use refusal::UNUSED_CODE;
 
-// Levels, frames and captures.
+// Levels, octets, frames and captures.
 pub use capture::Found;
 pub use capture::search;
 pub use frame::verdict;
@@ -26,6 +26,8 @@ pub use line::Heard;
 pub use line::Receiver;
 pub use line::Window;
 pub use line::send;
+pub use octets::HeardOctet;
+pub use octets::OctetReceiver;
 
 // Messages, pairs, and track numbers as text.
 pub use kind::Kind;

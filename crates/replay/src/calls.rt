@@ -4,16 +4,17 @@ use crate::messages;
 use link1::Feet;
 use link1::Found;
 use link1::Heard;
+use link1::HeardOctet;
 use link1::Height;
 use link1::Message;
 use link1::Named;
+use link1::OctetReceiver;
 use link1::Opened;
 use link1::Receiver;
 use link1::Refusal;
 use link1::Tracked;
 use link1::Window;
 use parts::numbers;
-use parts::octets;
 use parts::show;
 
 // ---- octets alone
@@ -108,6 +109,56 @@ fn feed(given: Receiver, levels: &[u8]) {
     tell_state(receiver);
 }
 
+// Whether an answer to an octet says nothing: no frame, bit 0, and octets of zero.
+fn is_silent_octet(heard: HeardOctet) -> bool {
+    let image = heard.image;
+    if heard.frame {
+        return false;
+    }
+    if heard.bit != 0 {
+        return false;
+    }
+    is_zero(&image)
+}
+
+// at I F J OCTETS: the octet's number from 1, whether there is a frame, the bit at which it ended, and its octets.
+fn tell_octet(i: usize, heard: HeardOctet) {
+    let image = heard.image;
+    show::text(b"at");
+    show::number(i as u64);
+    show::number(bits::bit_of(heard.frame));
+    show::number(heard.bit as u64);
+    show::octets(&image);
+    show::text(b" ");
+}
+
+// state OCTETS
+fn tell_window(receiver: OctetReceiver) {
+    let window = receiver.window;
+    show::text(b"state x");
+    show::bits(window.older);
+    show::bits(window.newer);
+}
+
+fn step_octet(receiver: OctetReceiver, i: usize, octet: u8) -> OctetReceiver {
+    let heard = receiver.step(octet);
+    if !is_silent_octet(heard) {
+        tell_octet(i, heard);
+    }
+    heard.receiver
+}
+
+// Feeds a run of octets: each answer that is not silent, then the state.
+fn feed_octets(given: OctetReceiver, run: &[u8]) {
+    let mut receiver = given;
+    let mut i = 0;
+    while i < run.len() {
+        receiver = step_octet(receiver, i + 1, run[i]);
+        i += 1;
+    }
+    tell_window(receiver);
+}
+
 // ---- numbers, then octets
 
 // search START CAPTURE
@@ -189,6 +240,17 @@ fn resume(line: &[u8], body: &[u8]) {
         window: window(body),
     };
     feed(receiver, &body[16..]);
+}
+
+// resume_octets WINDOW OCTETS: the window is sixteen octets.
+fn resume_octets(body: &[u8]) {
+    if body.len() < 16 {
+        return show::refuse();
+    }
+    let receiver = OctetReceiver {
+        window: window(body),
+    };
+    feed_octets(receiver, &body[16..]);
 }
 
 // ---- numbers alone
@@ -306,7 +368,7 @@ fn close(line: &[u8], space: &mut [u8]) {
     if second.next == 0 {
         return show::refuse();
     }
-    let k = octets::gather(line, second.next, space);
+    let k = parts::octets::gather(line, second.next, space);
     if space.len() < k {
         return show::refuse();
     }
@@ -375,8 +437,8 @@ fn shift(line: &[u8]) {
 
 // ---- which call a line says: the words of the calls, and the place of each
 
-const CALLS: [u8; 151] =
-    *b"verdict open hear track_number search track_text send resume close shift kind_of label kind_named altitude refusal_of refusal_at refusal_inside numbers";
+const CALLS: [u8; 177] =
+    *b"verdict open hear track_number search track_text send resume close shift kind_of label kind_named altitude refusal_of refusal_at refusal_inside numbers hear_octets resume_octets";
 
 const VERDICT: usize = 0;
 
@@ -414,6 +476,10 @@ const REFUSAL_INSIDE: usize = 16;
 
 const NUMBERS: usize = 17;
 
+const HEAR_OCTETS: usize = 18;
+
+const RESUME_OCTETS: usize = 19;
+
 // The part at which a call's octets begin.
 fn octets_from(said: usize) -> usize {
     match said {
@@ -435,12 +501,14 @@ fn call_on(said: usize, line: &[u8], body: &mut [u8]) {
         TRACK_TEXT => track_text(line, body),
         SEND => send(line, body),
         RESUME => resume(line, body),
+        HEAR_OCTETS => feed_octets(OctetReceiver::fresh(), body),
+        RESUME_OCTETS => resume_octets(body),
         _ => show::refuse(),
     }
 }
 
 fn call_octets(said: usize, line: &[u8], space: &mut [u8]) {
-    let k = octets::gather(line, octets_from(said), space);
+    let k = parts::octets::gather(line, octets_from(said), space);
     if space.len() < k {
         return show::refuse();
     }

@@ -1,0 +1,4 @@
+pub mod EndLaws
+pub mod SearchTie
+mod HearingLaws
+pub mod OneAnswer

@@ -1,0 +1,120 @@
+-- DEMAND 3 for the octet receiver, through the equality with the first; and the same by positions in a run of octets. Assumes nothing.
+use mathlib.Core.Path.{_≡_, sym, ap, ap₂, _∙_}
+use mathlib.Core.Bool.{Bool, true}
+use mathlib.Core.List.{List, [], _∷_, _++_}
+use Prim.Native.Nat.{ℕ, zero, suc, _+_, _-_, _*_, _≤_, _<_}
+use native.Mathlib.Nat.{add-suc}
+use native.Mathlib.Omega.{arith}
+use borrow.Author.Tests.{le-ltb, le-leb, lt-leb, leb-true}
+use lib.Dec.{leb}
+use lib.ListN.{length, getD}
+use Rattle.bits.specs.Tests.{pick, both}
+use Rattle.bits.specs.Numbers.{tab}
+use Rattle.bits.specs.Octets.{bitAt, octetsOf}
+use Rattle.frame.specs.Frame.{goodFrame, frameAt}
+use Rattle.line.specs.Levels.{bitsOf, decoded}
+use Rattle.line.specs.Machine.{heardOf, run}
+use Rattle.line.specs.Hearing.{lastFrame, endsGood, toldOf}
+use Rattle.line.specs.Sending.{next, levelsAfter}
+use Rattle.line.specs.declared.Handed.{Handed}
+use Rattle.bits.proofs.TestLaws.{by-lt, both-true}
+use Rattle.bits.proofs.NumberLaws.{length-tab, getD-tab, tab-more}
+use Rattle.bits.proofs.OctetLaws.{bit-lt, octets-ext}
+use Rattle.frame.proofs.FrameLaws.{good-ext, apart}
+use Rattle.line.proofs.WindowLaws.{Bits, more, bits-tab}
+use Rattle.line.proofs.LevelLaws.{lastOf, kept-all, bits-last, told-bits, levels-bits, levels-snoc}
+use Rattle.line.proofs.Demand3.{demand3}
+use Rattle.octets.specs.Feeding.{heardAt}
+use Rattle.octets.specs.Hearing.{firstBits, handedBy, framedAt, handedAt, toldBy}
+use Rattle.octets.proofs.Equality.{equality}
+
+-- ---- some levels decode to any octets' bits, so the equality speaks of every run of octets
+
+module _ (octets : List ℕ) (n : ℕ) where
+  -- the level 0 and those that tell the first n bits after it, and the level that tells one bit more
+  abbrev levels : List ℕ
+  levels = 0 ∷ levelsAfter 0 (firstBits octets n)
+
+  abbrev last : ℕ
+  last = next (lastOf 0 (levelsAfter 0 (firstBits octets n))) (bitAt octets (n + 1))
+
+  all-levels : levels ++ last ∷ [] ≡ 0 ∷ levelsAfter 0 (firstBits octets (suc n))
+  all-levels =
+      ap (λ (t : List ℕ). 0 ∷ t)
+      (sym (levels-snoc 0 (firstBits octets n) (bitAt octets (n + 1))) ∙ ap (levelsAfter 0) (sym (tab-more (λ i. bitAt octets (i + 1)) n)))
+
+  all-bits : Bits (firstBits octets (suc n))
+  all-bits = bits-tab (λ i. bitAt octets (i + 1)) (suc n) (λ i. omega (arith, bit-lt octets (i + 1)))
+
+  levels-are : Bits (levels ++ last ∷ [])
+  levels-are = rw all-levels (more {b = 0} (omega arith) (levels-bits 0 (firstBits octets (suc n)) (omega arith)))
+
+  last-level : last ≤ 1
+  last-level = bits-last levels last levels-are
+
+  levels-decode : decoded (levels ++ last ∷ []) ≡ firstBits octets (suc n)
+  levels-decode = ap bitsOf (kept-all levels-are ∙ all-levels) ∙ told-bits 0 (omega arith) all-bits
+
+-- ---- by positions in a run of octets
+
+-- the last 128 of the first n bits are the frame at position n - 128
+last-bit : (octets : List ℕ) (n : ℕ) → 128 ≤ n → (m : ℕ) → 1 ≤ m → m ≤ 128 → lastFrame (firstBits octets n) m ≡ frameAt octets (n - 128) m
+last-bit octets n enough m a b =
+    let e : n - 128 + (m - 1) + 1 ≡ n - 128 + m = omega arith in
+    ap (λ (i : ℕ). getD (firstBits octets n) (i - 128 + (m - 1)) 0) (length-tab (λ i. bitAt octets (i + 1)) n)
+    ∙ getD-tab (λ i. bitAt octets (i + 1)) n (n - 128 + (m - 1)) (omega arith)
+    ∙ ap (bitAt octets) e
+
+-- the first n bits end in a good frame exactly if they are 128 or more and the frame at position n - 128 is good
+pub ends-at : (octets : List ℕ) (n : ℕ) → endsGood (firstBits octets n) ≡ both (leb 128 n) (goodFrame (frameAt octets (n - 128)))
+unfolding endsGood
+ends-at octets n =
+    let long : length (firstBits octets n) ≡ n = length-tab (λ i. bitAt octets (i + 1)) n in
+    ap (λ (m : ℕ). both (leb 128 m) (goodFrame (lastFrame (firstBits octets n)))) long
+    ∙ by-lt n 128
+    (λ few. ap (λ (t : Bool). both t (goodFrame (lastFrame (firstBits octets n)))) (lt-leb 128 n few) ∙ sym (ap (λ (t : Bool). both t (goodFrame (frameAt octets (n - 128)))) (lt-leb 128 n few)))
+    (λ enough. ap (both (leb 128 n)) (good-ext _ _ (last-bit octets n enough)))
+
+module _ (octets : List ℕ) (small : (k : ℕ) → getD octets k 0 < 256) where
+  -- At bit j of octet k the receiver hands over a frame exactly when the bits that have come end in a good one, and then that one.
+  pub octets-told : (k j : ℕ) → 1 ≤ j → j ≤ 8 → handedAt (heardAt octets k) j ≡ toldBy (firstBits octets (8 * k + j))
+  octets-told k zero p q = absurd (omega arith)
+  octets-told k (suc i) p q =
+      let n = 8 * k + i in
+      let same : decoded (levels octets n ++ last octets n ∷ []) ≡ firstBits octets (8 * k + suc i) =
+      levels-decode octets n ∙ ap (firstBits octets) (sym (add-suc (8 * k) i)) in
+      sym (equality octets small (levels octets n) (last octets n) k (suc i) (last-level octets n) p q same)
+      ∙ ap handedBy (demand3 (levels octets n) (last octets n))
+      ∙ rw (le-ltb 1 (last octets n) (last-level octets n)) (ap toldBy same)
+
+  -- so at bit j of octet k exactly if 128 bits have come and the frame that ends there is good
+  pub octets-good : (k j : ℕ) → 1 ≤ j → j ≤ 8
+      → framedAt (heardAt octets k) j ≡ both (leb 128 (8 * k + j)) (goodFrame (frameAt octets (8 * k + j - 128)))
+  octets-good k j p q = ap (λ (h : Handed). h .frame) (octets-told k j p q) ∙ ends-at octets (8 * k + j)
+
+  -- each good frame is heard in the octet of its last bit, and at that bit
+  pub heard-in-last-octet : (position k j : ℕ) → 1 ≤ j → j ≤ 8 → position + 128 ≡ 8 * k + j → goodFrame (frameAt octets position) ≡ true
+      → handedAt (heardAt octets k) j ≡ record { frame = true; image = octetsOf 16 (frameAt octets position) }
+  heard-in-last-octet position k j p q at good =
+      let e : 8 * k + j - 128 ≡ position = omega arith in
+      let g : endsGood (firstBits octets (8 * k + j)) ≡ true =
+      ends-at octets (8 * k + j)
+      ∙ ap₂ both (le-leb 128 (8 * k + j) (omega arith)) (ap (λ (m : ℕ). goodFrame (frameAt octets m)) e ∙ good) in
+      octets-told k j p q
+      ∙ rw g
+      (ap (λ (image : List ℕ). record { frame = true; image = image })
+      (octets-ext 16 _ _ (λ n a b. last-bit octets (8 * k + j) (omega arith) n a b ∙ ap (λ (m : ℕ). frameAt octets m n) e)))
+
+  -- two frames that it hands over share no bit
+  framed-means : (k j : ℕ) → 1 ≤ j → j ≤ 8 → framedAt (heardAt octets k) j ≡ true
+      → (128 ≤ 8 * k + j) × (goodFrame (frameAt octets (8 * k + j - 128)) ≡ true)
+  framed-means k j p q f =
+      let b = both-true {a = leb 128 (8 * k + j)} {b = goodFrame (frameAt octets (8 * k + j - 128))} (sym (octets-good k j p q) ∙ f) in
+      (leb-true _ _ (b .0), b .1)
+
+  pub octets-apart : (k j m i : ℕ) → 1 ≤ j → j ≤ 8 → 1 ≤ i → i ≤ 8 → 8 * k + j < 8 * m + i
+      → framedAt (heardAt octets k) j ≡ true → framedAt (heardAt octets m) i ≡ true → 8 * k + j + 128 ≤ 8 * m + i
+  octets-apart k j m i p q r s l f g =
+      let a = framed-means k j p q f in
+      let b = framed-means m i r s g in
+      omega (arith, apart (bitAt octets) (8 * k + j - 128) (8 * m + i - 128) (a .1) (b .1) (omega (arith, a .0, b .0)), a .0, b .0)

@@ -1,0 +1,4 @@
+mod TakeLaws
+pub mod AnswerLaws
+pub mod Equality
+pub mod Demand3
