@@ -1,6 +1,6 @@
 -- Why the search may pass octets: what a good frame says of the octets that it lies in. Assumes nothing.
 use mathlib.Core.Path.{_≡_, refl, sym, ap, _∙_}
-use mathlib.Core.Bool.{Bool, true, false}
+use mathlib.Core.Bool.{true, false}
 use mathlib.Core.List.{List}
 use Prim.Native.Nat.{ℕ, _+_, _-_, _*_, _/_, _%_, _^_, _≤_, _<_, min}
 use native.Mathlib.Nat.{min-eq-left, zero-div, div-one}
@@ -15,7 +15,7 @@ use Rattle.bits.specs.Octets.{bitAt}
 use Rattle.frame.specs.Frame.{goodFrame, frameAt}
 use Rattle.capture.specs.Search.{goodAt, NoneIn, NoneFrom}
 use Rattle.capture.specs.Sieve.{Passed}
-use Rattle.bits.proofs.TestLaws.{by-lt, both-true, clash, rule-at}
+use Rattle.bits.proofs.TestLaws.{by-lt, both-true, clash, never-true, rule-at}
 use Rattle.bits.proofs.NumberLaws.{num-ext, num-of, num-zero, shl-low}
 use Rattle.bits.proofs.OctetLaws.{bit-in}
 use Rattle.frame.proofs.FrameLaws.{start-zero, mark-one}
@@ -39,11 +39,7 @@ module _ (s : List ℕ) (p : ℕ) where
 
   -- what cannot be good is not good
   pub not-good : (goodAt s p ≡ true → ⊥) → goodAt s p ≡ false
-  not-good h = go (goodAt s p) refl
-    where
-      go : (t : Bool) → goodAt s p ≡ t → goodAt s p ≡ false
-      go true e = absurd (h e)
-      go false e = e
+  not-good = never-true (goodAt s p)
 
 -- ---- positions without a good frame
 

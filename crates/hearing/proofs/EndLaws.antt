@@ -10,16 +10,15 @@ use lib.Dec.{eqb, leb}
 use lib.ListN.{length, getD, length-append}
 use Rattle.bits.specs.Tests.{pick, both}
 use Rattle.bits.specs.Octets.{bitAt}
-use Rattle.frame.specs.Frame.{goodFrame, frameAt}
 use Rattle.capture.specs.Search.{goodAt}
 use Rattle.octets.specs.Feeding.{fedTo, heardAt}
 use Rattle.octets.specs.Hearing.{framedAt}
-use Rattle.bits.proofs.TestLaws.{by-lt, both-true, both-false, clash}
+use Rattle.bits.proofs.TestLaws.{by-lt, both-true, both-false, never-true}
 use Rattle.frame.proofs.FrameLaws.{apart}
-use Rattle.capture.proofs.SieveLaws.{good-frame, good-whole}
-use Rattle.octets.proofs.AnswerLaws.{not-true, bit-le}
+use Rattle.capture.proofs.SieveLaws.{good-frame}
+use Rattle.octets.proofs.AnswerLaws.{bit-le}
 use Rattle.octets.proofs.Demand3.{octets-good}
-use Rattle.hearing.specs.Ends.{endsWith, endsTo, endIn}
+use Rattle.hearing.specs.Ends.{endsWith, endsTo, endIn, heardTo}
 
 module _ (capture : List ℕ) where
   -- ---- the numbers in their order
@@ -77,7 +76,7 @@ module _ (capture : List ℕ) where
           let s : suc n - 128 + 127 ≡ n = omega arith in
           let same : endsTo capture n ≡ endsTo capture (suc n - 128) =
           ap (endsTo capture) (sym s)
-          ∙ ends-none (suc n - 128) 127 (λ m p q. not-true _ (λ x. omega (arith, ends-apart m (suc n) (omega arith) x e))) in
+          ∙ ends-none (suc n - 128) 127 (λ m p q. never-true _ (λ x. omega (arith, ends-apart m (suc n) (omega arith) x e))) in
           let z : endsTo capture n ++ pick (endsWith capture (suc n)) (suc n ∷ []) [] ≡ endsTo capture (suc n - 128) ++ suc n ∷ [] =
           ap₂ (λ (l : List ℕ) (t : Bool). l ++ pick t (suc n ∷ []) []) same e in
           omega (arith, back (omega arith), ap length z, length-append (endsTo capture (suc n - 128)) (suc n ∷ []))
@@ -124,3 +123,11 @@ module _ (capture : List ℕ) (octets : (k : ℕ) → getD capture k 0 < 256) wh
           ∙ ends-none capture (8 * k + bit) (8 - bit) (λ n p q. others n (omega arith) (omega arith) (λ x. omega arith))
           ∙ ends-one capture (8 * k) bit low here (λ n p q. others n p (omega arith) (λ x. omega arith))
           ∙ sym (ap (λ (t : Bool). endsTo capture (8 * k) ++ pick t ((8 * k + bit) ∷ []) []) e)
+
+  -- so those of the first k octets are what it says of them
+  pub ends-heard : (k : ℕ) → k ≤ length capture → endsTo capture (8 * k) ≡ heardTo capture k
+  unfolding endsTo heardTo
+  ends-heard zero h = refl
+  ends-heard (suc k) h =
+      let e : 8 * suc k ≡ 8 * k + 8 = omega arith in
+      ap (endsTo capture) e ∙ octet-ends k (omega arith) ∙ ap (λ (l : List ℕ). l ++ endIn k (heardAt capture k)) (ends-heard k (omega arith))

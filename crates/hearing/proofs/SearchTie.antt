@@ -4,7 +4,7 @@ use mathlib.Core.Bool.{Bool, true, false}
 use mathlib.Core.List.{List, [], _∷_, _++_, map, append-nil, append-assoc}
 use Prim.Native.Nat.{ℕ, zero, suc, _+_, _-_, _*_, _≤_, _<_}
 use native.Mathlib.Omega.{arith}
-use borrow.Author.Tests.{le-leb, lt-leb}
+use borrow.Author.Tests.{le-leb, le-ltb}
 use lib.ListN.{length}
 use Rattle.bits.specs.Tests.{both}
 use Rattle.capture.specs.Search.{goodAt, Least, searchOf}
@@ -12,8 +12,9 @@ use Rattle.capture.specs.declared.Found.{Found}
 use Rattle.capture.specs.declared.Found.the-variants.{At, Refused}
 use Rattle.capture.proofs.SieveLaws.{good-whole}
 use Rattle.capture.proofs.SearchLaws.{found-least, none-answered}
-use Rattle.octets.proofs.AnswerLaws.{not-true}
+use Rattle.bits.proofs.TestLaws.{never-true}
 use Rattle.hearing.specs.Ends.{endsWith, endsTo, endsOf, andOn, foundFrom}
+use Rattle.hearing.specs.Hearing.{linesOf, hearingOf}
 use Rattle.hearing.proofs.EndLaws.{ends-none, ends-one, ends-good}
 
 module _ (capture : List ℕ) where
@@ -24,10 +25,10 @@ module _ (capture : List ℕ) where
       ap (λ (t : Bool). both t (goodAt capture (p + 128 - 128))) (le-leb 128 (p + 128) (omega arith)) ∙ ap (goodAt capture) e
 
   none-short : (n : ℕ) → n < 128 → endsWith capture n ≡ false
-  none-short n h = not-true _ (λ e. omega (arith, ends-good capture n e .0))
+  none-short n h = never-true _ (λ e. omega (arith, ends-good capture n e .0))
 
   none-past : (n : ℕ) → 8 * length capture < n → endsWith capture n ≡ false
-  none-past n h = not-true _ (λ e. let p = ends-good capture n e in omega (arith, p .0, good-whole capture (n - 128) (p .1)))
+  none-past n h = never-true _ (λ e. let p = ends-good capture n e in omega (arith, p .0, good-whole capture (n - 128) (p .1)))
 
   -- where none is good at the d positions from a on
   none-from : (a d : ℕ) → ((p : ℕ) → a ≤ p → p < a + d → goodAt capture p ≡ false) → (n : ℕ) → a + 127 < n → n ≤ a + 127 + d → endsWith capture n ≡ false
@@ -81,3 +82,8 @@ module _ (capture : List ℕ) where
         sym (ends-none capture (8 * length capture) 127 (λ n a b. none-past n a))
         ∙ from-start searches 0 (omega arith) (omega arith)
         ∙ ap (λ (l : List ℕ). l ++ map (λ (p : ℕ). p + 128) (foundFrom capture searches 0)) (ends-none capture 0 127 (λ n a b. none-short n (omega arith)))
+
+    -- so what is written of a capture are their lines
+    pub lines-searched : (searches : ℕ) → 8 * length capture < searches → hearingOf capture ≡ linesOf (map (λ (p : ℕ). p + 128) (foundFrom capture searches 0))
+    unfolding hearingOf
+    lines-searched searches enough = rw (le-ltb 65536 (length capture) short) (ap linesOf (ends-searched searches enough))

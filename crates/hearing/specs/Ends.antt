@@ -8,6 +8,7 @@ use Rattle.bits.specs.Tests.{pick, both}
 use Rattle.capture.specs.Search.{goodAt, searchOf}
 use Rattle.capture.specs.declared.Found.{Found}
 use Rattle.capture.specs.declared.Found.the-variants.{At, Refused}
+use Rattle.octets.specs.Feeding.{heardAt}
 use Rattle.octets.specs.declared.HeardOctet.{HeardOctet}
 
 -- with n bits read, a good frame has come to its end: it lies whole at position n - 128
@@ -23,9 +24,13 @@ endsTo capture (suc n) = endsTo capture n ++ pick (endsWith capture (suc n)) (su
 abbrev pub endsOf : List ℕ → List ℕ
 endsOf capture = endsTo capture (8 * length capture)
 
--- what the octet receiver says of octet k, from 0: the bits read through the last bit of a frame that ended in it
+-- what the octet receiver says of octet k, from 0: the bits read through the last bit of a frame that ended in it; and of the first k octets
 abbrev pub endIn : ℕ → HeardOctet → List ℕ
 endIn k h = pick (h .frame) ((8 * k + h .bit) ∷ []) []
+
+unfoldable pub heardTo : List ℕ → ℕ → List ℕ
+heardTo capture zero = []
+heardTo capture (suc k) = heardTo capture k ++ endIn k (heardAt capture k)
 
 -- the positions that repeated search gives, from a start on and then from each position found plus 1, in at most so many searches
 abbrev pub andOn : Found → (ℕ → List ℕ) → List ℕ

@@ -1,6 +1,5 @@
 // The frames heard in a capture, as text in a lent buffer (02, item 5).
 
-ghost use mathlib.Core.Path.{_≡_};
 ghost use Prim.Native.Nat.{_+_, _≤_, _<_};
 ghost use lib.ListN.{length};
 ghost use Rattle.io.specs.Counts.{Counts};

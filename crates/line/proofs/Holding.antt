@@ -17,11 +17,11 @@ use Rattle.line.specs.Hearing.{lastFrame, endsGood, toldOf, told}
 use Rattle.line.specs.declared.Window.{Window}
 use Rattle.line.specs.declared.Receiver.{Receiver}
 use Rattle.line.specs.declared.Heard.{Heard}
-use Rattle.bits.proofs.TestLaws.{by-lt, clash, rule-at}
+use Rattle.bits.proofs.TestLaws.{by-lt, clash, never-true, rule-at}
 use Rattle.bits.proofs.OctetLaws.{octets-bits, octets-ext}
 use Rattle.frame.proofs.FrameLaws.{good-ext, start-zero}
 use Rattle.line.proofs.WindowLaws.{Bits, none, valFrom, val-snoc, val-div, val-bit, Low, push-low, window-octet, window-bit}
-use Rattle.line.proofs.LevelLaws.{lastOf, last-snoc, differ-le, bits-append, bits-bits, kept-snoc}
+use Rattle.line.proofs.LevelLaws.{lastOf, last-snoc, differ-le, bits-append, bits-bits}
 
 -- the ones of an idle line
 abbrev pub idle : ℕ
@@ -83,13 +83,11 @@ module _ (w : Window) (h : List ℕ) (low : Low w (valFrom idle h)) (bits : Bits
   unfolding endsGood
   good-is =
       by-lt (length h) 128
-      (λ few. not-good few (goodFrame (bitAt (windowImage w))) refl ∙ ap (λ (t : Bool). both t (goodFrame (lastFrame h))) (sym (lt-leb 128 (length h) few)))
+      (λ few.
+      never-true _ (λ e. let z = start-zero (bitAt (windowImage w)) e 0 (lit< tt) in omega (arith, first-one few))
+      ∙ ap (λ (t : Bool). both t (goodFrame (lastFrame h))) (sym (lt-leb 128 (length h) few)))
       (λ enough.
       good-ext _ _ (image-bit enough) ∙ ap (λ (t : Bool). both t (goodFrame (lastFrame h))) (sym (le-leb 128 (length h) enough)))
-    where
-      not-good : length h < 128 → (t : Bool) → goodFrame (bitAt (windowImage w)) ≡ t → t ≡ false
-      not-good few false e = refl
-      not-good few true e = absurd (let z = start-zero (bitAt (windowImage w)) e 0 (lit< tt) in omega (arith, first-one few))
 
   image-is : endsGood h ≡ true → windowImage w ≡ octetsOf 16 (lastFrame h)
   unfolding endsGood
@@ -100,18 +98,6 @@ module _ (w : Window) (h : List ℕ) (low : Low w (valFrom idle h)) (bits : Bits
     where
       octet : (k : ℕ) → getD (windowImage w) k 0 < 256
       octet k = window-octet w (valFrom idle h) low k
-
-answer-is : (s : Receiver) (ks ls : List ℕ) → Holds s ks → s ≡ run ls → answerOf s ≡ toldOf ls (bitsOf ks)
-unfolding holdsFrame
-answer-is s ks ls h e =
-    go (endsGood (bitsOf ks)) refl
-  where
-    g : goodFrame (bitAt (windowImage (s .window))) ≡ endsGood (bitsOf ks)
-    g = good-is (s .window) (bitsOf ks) (h .window) (bits-of ks)
-
-    go : (t : Bool) → endsGood (bitsOf ks) ≡ t → answerOf s ≡ toldOf ls (bitsOf ks)
-    go true q = rw (g, q, ← e, image-is (s .window) (bitsOf ks) (h .window) (bits-of ks) q)
-    go false q = rw (g, q, ← e)
 
 -- ---- runs
 
@@ -132,6 +118,18 @@ run-holds s ks (l ∷ ls) h = go (refused l) refl (run-holds s ks ls h) (run-hol
 pub run-window : (ls : List ℕ) → Low (run ls .window) (valFrom idle (decoded ls))
 run-window ls = run-holds freshOf [] ls fresh-holds .window
 
+-- so what it hands over is what these bits say
+answer-is : (ls : List ℕ) → answerOf (run ls) ≡ toldOf ls (decoded ls)
+unfolding holdsFrame
+answer-is ls = go (endsGood (decoded ls)) refl
+  where
+    good : goodFrame (bitAt (windowImage (run ls .window))) ≡ endsGood (decoded ls)
+    good = good-is (run ls .window) (decoded ls) (run-window ls) (bits-of (kept ls))
+
+    go : (t : Bool) → endsGood (decoded ls) ≡ t → answerOf (run ls) ≡ toldOf ls (decoded ls)
+    go true e = rw (good, e, image-is (run ls .window) (decoded ls) (run-window ls) (bits-of (kept ls)) e)
+    go false e = rw (good, e)
+
 -- a level that is taken is answered by what the receiver then holds
 pub heard-answer : (ls : List ℕ) (l : ℕ) → l ≤ 1 → heardOf (run ls) l ≡ answerOf (run (ls ++ l ∷ []))
 heard-answer ls l h =
@@ -144,8 +142,4 @@ heard-told ls l = go (refused l) refl
   where
     go : (t : Bool) → refused l ≡ t → heardOf (run ls) l ≡ told ls l
     go true e = rw e
-    go false e =
-        let small : l ≤ 1 = ltb-false 1 l e in
-        heard-answer ls l small
-        ∙ answer-is (run (ls ++ l ∷ [])) (kept (ls ++ l ∷ [])) (ls ++ l ∷ []) (run-holds freshOf [] (ls ++ l ∷ []) fresh-holds) refl
-        ∙ rw e
+    go false e = heard-answer ls l (ltb-false 1 l e) ∙ answer-is (ls ++ l ∷ []) ∙ rw e

@@ -9,9 +9,9 @@ use lib.Dec.{lit<}
 use Rattle.bits.specs.Tests.{pick}
 use Rattle.bits.specs.Octets.{bitAt}
 use Rattle.frame.specs.Frame.{goodFrame, frameAt}
-use Rattle.line.specs.Machine.{windowImage, holdsFrame, handedOf}
+use Rattle.line.specs.Machine.{holdsFrame, handedOf}
 use Rattle.line.specs.declared.Window.{Window}
-use Rattle.bits.proofs.TestLaws.{by-lt}
+use Rattle.bits.proofs.TestLaws.{by-lt, never-true}
 use Rattle.frame.proofs.FrameLaws.{good-ext, apart}
 use Rattle.frame.proofs.LeadLaws.{lead-is}
 use Rattle.line.proofs.WindowLaws.{low-self}
@@ -19,14 +19,9 @@ use Rattle.octets.specs.Feeding.{taken, endsAt, lastOf, endBit, answerAt
 use Rattle.octets.specs.Steps.{leadOf, nothingHeard, heardAs}
 use Rattle.octets.proofs.TakeLaws.{seventeen, taken-bit}
 
--- what cannot come out true is false
-pub not-true : (t : Bool) → (t ≡ true → ⊥) → t ≡ false
-not-true true h = absurd (h refl)
-not-true false h = refl
-
 -- ---- the last that passes
 
-pub last-none : (f : ℕ → Bool) (n : ℕ) → ((k : ℕ) → 1 ≤ k → k ≤ n → f k ≡ false) → lastOf f n ≡ 0
+last-none : (f : ℕ → Bool) (n : ℕ) → ((k : ℕ) → 1 ≤ k → k ≤ n → f k ≡ false) → lastOf f n ≡ 0
 unfolding lastOf
 last-none f zero h = refl
 last-none f (suc n) h = rw (h (suc n) (omega arith) (omega arith)) (last-none f n (λ k a b. h k a (omega arith)))
@@ -78,11 +73,11 @@ module _ (w : Window) (o : ℕ) (a : w .older < 2 ^ 64) (b : w .newer < 2 ^ 64) 
 
   bit-none : leadOf w ≡ 0 → endBit w o ≡ 0
   unfolding endBit
-  bit-none e = last-none (endsAt w o) 8 (λ k p q. not-true _ (λ g. omega (arith, only k q g)))
+  bit-none e = last-none (endsAt w o) 8 (λ k p q. never-true _ (λ g. omega (arith, only k q g)))
 
   bit-one : (j : ℕ) → 1 ≤ j → j ≤ 8 → leadOf w ≡ j → endBit w o ≡ pick (endsAt w o j) j 0
   unfolding endBit
-  bit-one j p q e = last-one (endsAt w o) 8 j p q (λ k x y n. not-true _ (λ g. n (sym (only k y g) ∙ e)))
+  bit-one j p q e = last-one (endsAt w o) 8 j p q (λ k x y n. never-true _ (λ g. n (sym (only k y g) ∙ e)))
 
   -- the bit answered is the one at which a frame ends
   pub bit-is : (j : ℕ) → 1 ≤ j → j ≤ 8 → endsAt w o j ≡ true → endBit w o ≡ j

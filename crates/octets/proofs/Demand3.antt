@@ -8,13 +8,11 @@ use native.Mathlib.Omega.{arith}
 use borrow.Author.Tests.{le-ltb, le-leb, lt-leb, leb-true}
 use lib.Dec.{leb}
 use lib.ListN.{length, getD}
-use Rattle.bits.specs.Tests.{pick, both}
-use Rattle.bits.specs.Numbers.{tab}
+use Rattle.bits.specs.Tests.{both}
 use Rattle.bits.specs.Octets.{bitAt, octetsOf}
 use Rattle.frame.specs.Frame.{goodFrame, frameAt}
 use Rattle.line.specs.Levels.{bitsOf, decoded}
-use Rattle.line.specs.Machine.{heardOf, run}
-use Rattle.line.specs.Hearing.{lastFrame, endsGood, toldOf}
+use Rattle.line.specs.Hearing.{lastFrame, endsGood}
 use Rattle.line.specs.Sending.{next, levelsAfter}
 use Rattle.line.specs.declared.Handed.{Handed}
 use Rattle.bits.proofs.TestLaws.{by-lt, both-true}

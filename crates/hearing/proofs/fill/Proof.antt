@@ -1,10 +1,10 @@
 -- `hearing::fill` meets its contract. The loop's invariant: the receiver has been fed the octets passed, and the lines for them stand in
 -- the buffer. Assumes nothing.
 use borrow.Author.Needs.{needs}
-use mathlib.Core.Path.{_≡_, refl, ap, subst, _∙_}
+use mathlib.Core.Path.{_≡_, refl, ap, _∙_}
 use native.Mathlib.Omega.{arith}
 use lib.ListN.{length, getD}
-use Prim.Native.Nat.{ℕ, _-_, _*_, _≤_, _<_}
+use Prim.Native.Nat.{ℕ, _-_, _*_, _≤_}
 use Rattle.io.proofs.Counting.{counts}
 use Rattle.text.specs.Wrote.{Wrote}
 use Rattle.text.proofs.WroteLaws.{put-as}

@@ -16,6 +16,7 @@ use Rattle.line.specs.declared.Handed.{Handed}
 use Rattle.line.specs.declared.Window.{Window}
 use Rattle.refusal.specs.Refusals.{success}
 use Rattle.refusal.specs.declared.Refusal.{Refusal}
+use Rattle.bits.proofs.TestLaws.{never-true}
 use Rattle.frame.proofs.FrameLaws.{verdict-good, verdict-image, start-octet, mark-one}
 use Rattle.line.proofs.hand_over.Statement.{statement}
 use Rattle.line.proofs.hand_over.Tie as tie
@@ -48,11 +49,7 @@ nine w fits e =
 -- a window that begins otherwise holds none
 not-begun : (w : Window) → w .older < 2 ^ 64 → (w .older / 2 ^ 55 ≡ 1 → ⊥) → holdsFrame w ≡ false
 unfolding holdsFrame
-not-begun w fits h = go (goodFrame (bitAt (windowImage w))) refl
-  where
-    go : (t : Bool) → goodFrame (bitAt (windowImage w)) ≡ t → t ≡ false
-    go false e = refl
-    go true e = absurd (h (nine w fits e))
+not-begun w fits h = never-true _ (λ e. h (nine w fits e))
 
 none-is : (w : Window) → holdsFrame w ≡ false → nothingHanded ≡ handedOf w
 none-is w e = rw e

@@ -1,5 +1,4 @@
 -- `octets::OctetReceiver::hear` meets its contract. Assumes nothing.
-use mathlib.Core.Path.{_∙_}
 use borrow.Author.Needs.{needs}
 use Rattle.octets.proofs.OctetReceiver.hear.Statement.{statement}
 use Rattle.octets.proofs.OctetReceiver.hear.Tie as tie
