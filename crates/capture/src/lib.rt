@@ -62,10 +62,10 @@ fn pass_unmarked(capture: &[u8], i: usize) -> usize
 
 // Whether a good frame lies whole at position q.
 fn is_frame(capture: &[u8], q: usize) -> bool
-    requires { ⌜ (q < 8 * length (now capture)) × (length (now capture) ≤ 65536) ⌝ }
+    requires { ⌜ Lies (now capture) 0 ⌝ }
     ensures { λ r. ⌜ r ≡ goodAt (now (capture .entry)) q ⌝ }
 {
-    if 8 * capture.len() < q + 128 {
+    if 8 * capture.len() - 128 < q {
         return false;
     }
     frame::verdict_at(capture, q).number == refusal::SUCCESS

@@ -13,8 +13,8 @@ use Rattle.capture.proofs.is_frame.Tie as tie
 mul-if1 : tie.Need-mul-if1
 mul-if1 c = search needs
 
-add-if1 : tie.Need-add-if1
-add-if1 c = search needs
+sub-if1 : tie.Need-sub-if1
+sub-if1 c = search needs
 
 returns : tie.Need-returns
 returns c = sym (not-good _ _ (λ e. omega (arith, good-whole _ _ e, c .if1 .taken)))
@@ -31,7 +31,7 @@ is-frame-spec =
     tie.close
     (tie.spec
     mul-if1
-    add-if1
+    sub-if1
     returns
     verdict-at-requires
     returns-2)
