@@ -40,9 +40,13 @@ handedOf w = record { frame = holdsFrame w; image = pick (holdsFrame w) (windowI
 abbrev pub nothingHanded : Handed
 nothingHanded = record { frame = false; image = noImage }
 
--- as after an idle line (001, Annex A, Appendix 3, paragraph 5): all ones, in which no start group begins
+-- an idle line (001, Annex A, Appendix 3, paragraph 5): all ones, in which no start group begins
+abbrev pub idleWindow : Window
+idleWindow = record { older = 2 ^ 64 - 1; newer = 2 ^ 64 - 1 }
+
+-- a receiver that has had no level yet, as after an idle line
 abbrev pub freshOf : Receiver
-freshOf = record { started = false; last = 0; window = record { older = 2 ^ 64 - 1; newer = 2 ^ 64 - 1 } }
+freshOf = record { started = false; last = 0; window = idleWindow }
 
 -- the receiver after a level that is 0 or 1; the first gives no bit
 abbrev pub accepted : Receiver → ℕ → Receiver

@@ -4,7 +4,7 @@ ghost use mathlib.Core.Path.{_≡_};
 ghost use Prim.Native.Nat.{_≤_};
 ghost use lib.ListN.{length};
 ghost use Rattle.line.specs.Levels.{differ};
-ghost use Rattle.line.specs.Machine.{pushed, windowImage, handedOf, nothingHanded, freshOf, accepted, answerWith, heardOf};
+ghost use Rattle.line.specs.Machine.{pushed, windowImage, idleWindow, handedOf, nothingHanded, freshOf, accepted, answerWith, heardOf};
 ghost use Rattle.line.specs.Sending.{next, levelsAfter, imageBits, Sent};
 use refusal::Refusal;
 
@@ -50,6 +50,16 @@ impl Window {
             ((b >> 8) % 256) as u8,
             (b % 256) as u8,
         ]
+    }
+}
+
+// The window of an idle line: all ones, in which no start group begins.
+pub fn idle() -> Window
+    ensures { λ r. ⌜ r ≡ idleWindow ⌝ }
+{
+    Window {
+        older: 0xffff_ffff_ffff_ffff,
+        newer: 0xffff_ffff_ffff_ffff,
     }
 }
 
@@ -107,14 +117,11 @@ fn change(before: u8, level: u8) -> u8
 }
 
 impl Receiver {
-    // As after an idle line, all ones: no start group reaches back before the first bit.
+    // As after an idle line: no start group reaches back before the first bit.
     pub fn fresh() -> Receiver
         ensures { λ r. ⌜ r ≡ freshOf ⌝ }
     {
-        let window = Window {
-            older: 0xffff_ffff_ffff_ffff,
-            newer: 0xffff_ffff_ffff_ffff,
-        };
+        let window = idle();
         Receiver {
             started: false,
             last: 0,

@@ -6,7 +6,7 @@ use Prim.Native.Nat.{ℕ, zero, suc, _-_, _/_, _%_, _^_}
 use lib.Dec.{ltb}
 use lib.ListN.{getD}
 use Rattle.bits.specs.Tests.{pick}
-use Rattle.line.specs.Machine.{pushed, windowImage, noImage, holdsFrame, freshOf}
+use Rattle.line.specs.Machine.{pushed, windowImage, noImage, holdsFrame, idleWindow}
 use Rattle.line.specs.declared.Window.{Window}
 use Rattle.octets.specs.declared.OctetReceiver.{OctetReceiver}
 use Rattle.octets.specs.declared.HeardOctet.{HeardOctet}
@@ -42,9 +42,9 @@ answerAt w octet bit =
 abbrev pub heardOctet : OctetReceiver → ℕ → HeardOctet
 heardOctet s octet = answerAt (s .window) octet (endBit (s .window) octet)
 
--- the window of the first receiver when it is fresh: bits before the first octet never count
+-- as after an idle line, as the first receiver when it is fresh: bits before the first octet never count
 abbrev pub freshOctets : OctetReceiver
-freshOctets = record { window = freshOf .window }
+freshOctets = record { window = idleWindow }
 
 -- a fresh receiver after the first k of a run of octets, and its answer to the next one, octet k from 0
 unfoldable pub fedTo : List ℕ → ℕ → OctetReceiver

@@ -41,14 +41,11 @@ fn lead(window: Window) -> u32
 }
 
 impl OctetReceiver {
-    // As after an idle line, all ones: no start group reaches back before the first bit.
+    // As after an idle line: no start group reaches back before the first bit.
     pub fn fresh() -> OctetReceiver
         ensures { λ r. ⌜ r ≡ freshOctets ⌝ }
     {
-        let window = Window {
-            older: 0xffff_ffff_ffff_ffff,
-            newer: 0xffff_ffff_ffff_ffff,
-        };
+        let window = line::idle();
         OctetReceiver { window }
     }
 
