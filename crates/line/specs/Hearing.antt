@@ -6,10 +6,11 @@ use lib.Dec.{leb}
 use lib.ListN.{length, getD}
 use Rattle.bits.specs.Tests.{pick, both}
 use Rattle.bits.specs.Octets.{octetsOf}
-use Rattle.refusal.specs.Refusals.{numbered, success}
+use Rattle.refusal.specs.Refusals.{success}
 use Rattle.frame.specs.Frame.{goodFrame}
 use Rattle.line.specs.Levels.{refused, decoded}
-use Rattle.line.specs.Machine.{noImage, run, refusedBy}
+use Rattle.line.specs.Machine.{noImage, answerWith, run, refusedBy}
+use Rattle.line.specs.declared.Handed.{Handed}
 use Rattle.line.specs.declared.Heard.{Heard}
 
 -- the last 128 of a run of bits, as a frame
@@ -21,14 +22,12 @@ unfoldable pub endsGood : List ℕ → Bool
 endsGood bits = both (leb 128 (length bits)) (goodFrame (lastFrame bits))
 
 -- a frame is handed over exactly when the bits end in a good one, and then that one
+abbrev pub toldBy : List ℕ → Handed
+toldBy bits = record { frame = endsGood bits; image = pick (endsGood bits) (octetsOf 16 (lastFrame bits)) noImage }
+
+-- the answer to a level that is taken, the last of the levels ls, which decode to the bits
 abbrev pub toldOf : List ℕ → List ℕ → Heard
-toldOf ls bits =
-    record {
-      receiver = run ls;
-      refusal = numbered success;
-      frame = endsGood bits;
-      image = pick (endsGood bits) (octetsOf 16 (lastFrame bits)) noImage;
-    }
+toldOf ls bits = answerWith (run ls) success (toldBy bits)
 
 -- the answer to a level after the levels ls; at a level that is neither 0 nor 1 there is no frame
 abbrev pub told : List ℕ → ℕ → Heard

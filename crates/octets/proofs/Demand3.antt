@@ -12,7 +12,7 @@ use Rattle.bits.specs.Tests.{both}
 use Rattle.bits.specs.Octets.{bitAt, octetsOf}
 use Rattle.frame.specs.Frame.{goodFrame, frameAt}
 use Rattle.line.specs.Levels.{bitsOf, decoded}
-use Rattle.line.specs.Hearing.{lastFrame, endsGood}
+use Rattle.line.specs.Hearing.{lastFrame, endsGood, toldBy}
 use Rattle.line.specs.Sending.{next, levelsAfter}
 use Rattle.line.specs.declared.Handed.{Handed}
 use Rattle.bits.proofs.TestLaws.{by-lt, both-true}
@@ -23,7 +23,7 @@ use Rattle.line.proofs.WindowLaws.{Bits, more, bits-tab}
 use Rattle.line.proofs.LevelLaws.{lastOf, kept-all, bits-last, told-bits, levels-bits, levels-snoc}
 use Rattle.line.proofs.Demand3.{demand3}
 use Rattle.octets.specs.Feeding.{heardAt}
-use Rattle.octets.specs.Hearing.{firstBits, handedBy, framedAt, handedAt, toldBy}
+use Rattle.octets.specs.Hearing.{firstBits, handedBy, framedAt, handedAt}
 use Rattle.octets.proofs.Equality.{equality}
 
 -- ---- some levels decode to any octets' bits, so the equality speaks of every run of octets
@@ -103,13 +103,14 @@ module _ (octets : List ℕ) (small : (k : ℕ) → getD octets k 0 < 256) where
       (ap (λ (image : List ℕ). record { frame = true; image = image })
       (octets-ext 16 _ _ (λ n a b. last-bit octets (8 * k + j) (omega arith) n a b ∙ ap (λ (m : ℕ). frameAt octets m n) e)))
 
-  -- two frames that it hands over share no bit
+  -- a frame is handed over only where a good one ends
   framed-means : (k j : ℕ) → 1 ≤ j → j ≤ 8 → framedAt (heardAt octets k) j ≡ true
       → (128 ≤ 8 * k + j) × (goodFrame (frameAt octets (8 * k + j - 128)) ≡ true)
   framed-means k j p q f =
       let b = both-true {a = leb 128 (8 * k + j)} {b = goodFrame (frameAt octets (8 * k + j - 128))} (sym (octets-good k j p q) ∙ f) in
       (leb-true _ _ (b .0), b .1)
 
+  -- two frames that it hands over share no bit
   pub octets-apart : (k j m i : ℕ) → 1 ≤ j → j ≤ 8 → 1 ≤ i → i ≤ 8 → 8 * k + j < 8 * m + i
       → framedAt (heardAt octets k) j ≡ true → framedAt (heardAt octets m) i ≡ true → 8 * k + j + 128 ≤ 8 * m + i
   octets-apart k j m i p q r s l f g =

@@ -1,13 +1,13 @@
--- DEMAND 3 for the octet receiver (02, item 5): what it hands over, said of the bits that have come.
+-- THE EQUALITY and DEMAND 3 for the octet receiver (02, item 5): the bits that have come, and what the two receivers hand over. What bits say is
+-- `toldBy`, in Hearing.antt of `line`.
 use mathlib.Core.Bool.{Bool}
 use mathlib.Core.List.{List}
 use Prim.Native.Nat.{ℕ, _+_}
 use lib.Dec.{eqb}
 use Rattle.bits.specs.Tests.{pick, both}
 use Rattle.bits.specs.Numbers.{tab}
-use Rattle.bits.specs.Octets.{bitAt, octetsOf}
+use Rattle.bits.specs.Octets.{bitAt}
 use Rattle.line.specs.Machine.{noImage}
-use Rattle.line.specs.Hearing.{lastFrame, endsGood}
 use Rattle.line.specs.declared.Handed.{Handed}
 use Rattle.line.specs.declared.Heard.{Heard}
 use Rattle.octets.specs.declared.HeardOctet.{HeardOctet}
@@ -26,7 +26,3 @@ framedAt h j = both (h .frame) (eqb (h .bit) j)
 
 abbrev pub handedAt : HeardOctet → ℕ → Handed
 handedAt h j = record { frame = framedAt h j; image = pick (framedAt h j) (h .image) noImage }
-
--- what the bits say: a frame exactly when there are 128 and the last 128 are a good one, and then that one
-abbrev pub toldBy : List ℕ → Handed
-toldBy bits = record { frame = endsGood bits; image = pick (endsGood bits) (octetsOf 16 (lastFrame bits)) noImage }
