@@ -33,7 +33,7 @@ def opens(images):
 
 def examples():
     """The examples of the scope paper."""
-    track = message("S4", number=5203, quality=3)
+    track, strobe, blank = message("S4", number=5203, quality=3), message("S6"), message("Blank")
     cases = [lines.verdict(T), lines.open_image(T), lines.verdict(N), lines.open_image(N), lines.verdict(P),
              lines.open_image(P), lines.verdict(Q), lines.open_image(Q),
              ("verdict x00 xba*14 xff", "0 0 0"), ("open x00ba*14 xff", "0 0 0 S0 S0"),
@@ -45,7 +45,10 @@ def examples():
                      (message("S4+"), message("Blank"))])
     for step, offsets in ((1, [374]), (1, [375]), (-1, [-375]), (0, [400, 400]), (4095, [374]), (4095, [375]),
                           (-4096, [-374]), (-4096, [-375])):
-        cases += [lines.shift(changed(track, x=step), offsets, []), lines.shift(changed(track, y=step), [], offsets)]
+        for first, second in ((changed(track, x=step), blank), (strobe, changed(track, x=step))):
+            cases += relays([image(first, second)], offsets, [])
+        for first, second in ((changed(track, y=step), blank), (strobe, changed(track, y=step))):
+            cases += relays([image(first, second)], [], offsets)
     cases += [lines.altitude(feet) for feet in (562, 563, 191812, 191813)]
     for text in (b"EG123", b"MM777", b"BA000", b"AA000"):
         cases.append(lines.track_number(text, ["=" + text.decode("ascii")]))
@@ -66,7 +69,7 @@ def names():
     cases += [lines.kind_of(message("S3", request=7, mode1=65535)), lines.kind_of(message("S8+", x=32767, y=-32768)),
               lines.kind_of(message("S9", area=255, site=255, number=255, drop=1, x=-32768, y=32767))]
     cases += [lines.refusal_of(number) for number in (*link1.NUMBERS, 16, 17, 63, 64, 127, 128, 200, 254, 255)]
-    for place in (0, 1, 2, 3, 9, 128, 255):
+    for place in (0, 1, 2, 3, 4, 9, 128, 255):
         cases += [lines.refusal_at(number, place) for number in (*link1.NUMBERS, 16, 128, 255)]
     for number in (*link1.NUMBERS, 16, 255):
         cases += [lines.refusal_inside(number, place, bit) for place, bit in ((0, 0), (1, 7), (2, 49), (255, 255))]
@@ -1246,142 +1249,431 @@ def frames_from_each_octet():
     return cases
 
 
-# 01 'The shift'.
+# 01 'The shift'; 02 Item 6: the relay.
 
 STEPS = (-4096, -4095, -2, -1, 0, 1, 2, 4094, 4095)
 AROUND = (0, 1, 374, 375, 376, 749, 750, 1124, 1125, 1126)
 OFFSETS = tuple(-offset for offset in AROUND[:0:-1]) + AROUND
 
+# The farthest that an offset may go, and lists that are refused for their length and for each offset.
+FAR = 6144000
+BAD = [FAR + 1] * 9
 
-def track(number, **fields):
-    """A track, of one kind after the other."""
-    return message(link1.TRACKS[number % 4], number=20311 + number, quality=number // 4 % 4, **fields)
+# Each kind with a position in each place that it may have, and the other kind of the pair.
+POSITIONS = tuple((first, 1, second) for first, second in LEGAL_PAIRS if first in link1.WITH_POSITION) + tuple(
+    (second, 2, first) for first, second in LEGAL_PAIRS if second in link1.WITH_POSITION)
+TRACK_PLACES = tuple(place for place in POSITIONS if place[0] != "S9")
+CORNER_PLACES = tuple(place for place in POSITIONS if place[0] == "S9")
 
-
-def corner(number, **fields):
-    """An area's corner, of one area after the other."""
-    return message("S9", area=number % 4, site=(number + 43) % 64, number=number // 4 % 4, drop=(number + 1) % 2,
-                   **fields)
-
-
-def shifts(number, x, y, x_offsets, y_offsets):
-    """A track and a corner at these steps, both shifted."""
-    return [lines.shift(given, x_offsets, y_offsets) for given in (track(number, x=x, y=y), corner(number, x=x, y=y))]
+# The legal pairs whose messages both have a position, and those of which none has.
+BOTH_POSITIONS = tuple(pair for pair in LEGAL_PAIRS if all(kind in link1.WITH_POSITION for kind in pair))
+NO_POSITION = tuple(pair for pair in LEGAL_PAIRS if all(kind not in link1.WITH_POSITION for kind in pair))
 
 
-def shifts_around_steps():
-    """Around each half step from the steps at the edges and about zero: X alone, Y alone, both."""
+def nearest(before, after, offsets):
+    """01 'The shift': no step is nearer to the sum than this one, and of two as near it is farther from zero."""
+    feet = 750 * before + sum(offsets)
+    apart = abs(750 * after - feet)
+    return apart < 375 or apart == 375 and abs(750 * after) > abs(feet)
+
+
+def moved_rightly(before, after, x_offsets, y_offsets):
+    """02 Item 6: a message without a position passes through; of the others all but X and Y stays."""
+    if before[0] not in link1.WITH_POSITION:
+        return after == before
+    return (after == changed(before, x=after[1]["x"], y=after[1]["y"])
+            and nearest(before[1]["x"], after[1]["x"], x_offsets)
+            and nearest(before[1]["y"], after[1]["y"], y_offsets))
+
+
+def relayed_rightly(octets, x_offsets, y_offsets, length):
+    """02 Item 6: opening's refusal comes first and no refusal writes; else both messages are moved."""
+    buffer = bytes([5]) * length
+    opened, pair = link1.open_image(octets)
+    result, after = link1.relay(octets, x_offsets, y_offsets, buffer)
+    if result != link1.GOOD:
+        return after == buffer and (opened == link1.GOOD or result == opened)
+    again, pair_after = link1.open_image(after)
+    return again == link1.GOOD and link1.zeroed(after) == after and all(
+        moved_rightly(one, two, x_offsets, y_offsets) for one, two in zip(pair, pair_after))
+
+
+def relays(images, x_offsets, y_offsets, length=16):
+    """Images relayed by these lists, with so many octets lent."""
+    assert all(relayed_rightly(octets, x_offsets, y_offsets, length) for octets in images)
+    return [lines.relay(length, x_offsets, y_offsets, octets) for octets in images]
+
+
+def relays_answered(result, images, x_offsets, y_offsets, length=16):
+    """Images relayed that are all answered so."""
+    assert all(link1.relay(octets, x_offsets, y_offsets, bytes(length))[0] == result for octets in images)
+    return relays(images, x_offsets, y_offsets, length)
+
+
+def relays_through(images, x_offsets, y_offsets):
+    """Images relayed that come out with absent modes' codes zeroed and else as they were."""
+    assert all(link1.relay(octets, x_offsets, y_offsets, bytes(16)) == (link1.GOOD, link1.zeroed(octets))
+               for octets in images)
+    return relays(images, x_offsets, y_offsets)
+
+
+def at_steps(kind, number, x, y):
+    """A track or an area's corner at these steps, one number after the other."""
+    if kind == "S9":
+        return message("S9", area=number % 4, site=(number + 43) % 64, number=number // 4 % 4, drop=(number + 1) % 2,
+                       x=x, y=y)
+    return message(kind, number=20311 + number, quality=number // 4 % 4, x=x, y=y)
+
+
+def beside(kind, which, x, y):
+    """A message with fields that all differ, for this place; if it has a position, it is at these steps."""
+    given = (FIRST if which == 1 else SECOND)[kind]
+    return changed(given, x=x, y=y) if kind in link1.WITH_POSITION else given
+
+
+def positioned(place, number, x, y, same=False):
+    """The image of a message at these steps in its place; the other's position is the same or across zero from it."""
+    kind, which, other = place
+    given = at_steps(kind, number, x, y)
+    if which == 1:
+        return image(given, beside(other, 2, *((x, y) if same else (-1 - x, -1 - y))))
+    return image(beside(other, 1, *((x, y) if same else (-1 - x, -1 - y))), given)
+
+
+def positions(number, x, y, same=False):
+    """A track and a corner at these steps, in one place after the other."""
+    return [positioned(places[7 * number % len(places)], number, x, y, same)
+            for places in (TRACK_PLACES, CORNER_PLACES)]
+
+
+def relays_around_steps():
+    """Relays around each half step from the steps at the edges and about zero: X alone, Y alone, both."""
     cases = []
     for at, step in enumerate(STEPS):
         for number, offset in enumerate(OFFSETS):
-            turn, other = at + number, STEPS[(at + 4) % 9]
-            cases += shifts(turn, step, other, [offset], []) + shifts(turn, other, step, [], [offset])
+            turn, other = 19 * at + number, STEPS[(at + 4) % 9]
+            cases += relays(positions(turn, step, other), [offset], [])
+            cases += relays(positions(turn + 1, other, step), [], [offset])
             if number % 3 == 0:
-                cases += shifts(turn, step, STEPS[8 - at], [offset], [-offset])
-                cases += shifts(turn, step, STEPS[(at + 1) % 9], [offset], [OFFSETS[(number + 7) % len(OFFSETS)]])
+                cases += relays(positions(turn + 2, step, STEPS[8 - at]), [offset], [-offset])
+                cases += relays(positions(turn + 3, step, STEPS[(at + 1) % 9]), [offset],
+                                [OFFSETS[(number + 7) % len(OFFSETS)]])
     return cases
 
 
-def shifts_by_lists():
-    """Lists of every length, sums whose parts would round otherwise, sums that pass far beyond and come back."""
+def relays_by_lists():
+    """Relays by lists of every length, sums whose parts would round otherwise, sums that pass far and come back."""
     cases = []
     for length in (*range(0, 10), 16):
         offsets = [(-1) ** place * (300 + 17 * place) for place in range(length)]
-        cases += shifts(length, 7, -7, offsets, []) + shifts(length, 7, -7, [], offsets)
-        cases += shifts(length, -100, 100, offsets, offsets[:8]) + shifts(length, -100, 100, offsets[:8], offsets)
-        cases += shifts(length, 0, 0, [375] * length, [-375] * length)
-    far = 6144000
+        cases += relays(positions(length, 7, -7), offsets, []) + relays(positions(length + 1, 7, -7), [], offsets)
+        cases += relays(positions(length + 2, -100, 100), offsets, offsets[:8])
+        cases += relays(positions(length + 3, -100, 100), offsets[:8], offsets)
+        cases += relays(positions(length + 4, 0, 0), [375] * length, [-375] * length)
     lists = ([400, 400], [-400, -400], [100] * 4, [-100] * 4, [1] * 8, [374, 1], [-374, -1], [47] * 8, [-47] * 8,
-             [376, -1], [-376, 1], [far, far, -far, -far], [-far, -far, far, far, 375], [far] * 4 + [-far] * 4,
-             [-far] * 4 + [far] * 4, [far, -far, -750], [far] * 8, [-far] * 8,
-             [far, far, far, -far, -far, -far, 374, 1], [5000, -1, -6000, 250, 375, -3000], [1500, -1500, 1125],
+             [376, -1], [-376, 1], [FAR, FAR, -FAR, -FAR], [-FAR, -FAR, FAR, FAR, 375], [FAR] * 4 + [-FAR] * 4,
+             [-FAR] * 4 + [FAR] * 4, [FAR, -FAR, -750], [FAR] * 8, [-FAR] * 8,
+             [FAR, FAR, FAR, -FAR, -FAR, -FAR, 374, 1], [5000, -1, -6000, 250, 375, -3000], [1500, -1500, 1125],
              [0] * 8)
     for number, offsets in enumerate(lists):
-        for step in (0, 1, -1, 4095, -4096):
-            cases += shifts(number, step, 55, offsets, [750]) + shifts(number, -66, step, [-750], offsets)
+        for turn, step in enumerate((0, 1, -1, 4095, -4096), 5 * number):
+            cases += relays(positions(turn, step, 55), offsets, [750])
+            cases += relays(positions(turn + 1, -66, step), [-750], offsets)
     return cases
 
 
-def shift_limits():
-    """Offsets at their limits and beyond in each place of a list, and shifts across the whole range."""
+def relay_limits():
+    """Offsets at their limits and beyond in each place of a list, and relays across the whole range."""
     cases = []
-    beyond = (6144000, 6144001, -6144000, -6144001, 2147483647, -2147483648, 10000000, -10000000)
+    beyond = (FAR, FAR + 1, -FAR, -FAR - 1, 2147483647, -2147483648, 10000000, -10000000)
     for number, offset in enumerate(beyond):
-        for length, at in ((1, 0), (3, 0), (3, 1), (3, 2), (8, 0), (8, 4), (8, 7)):
+        for turn, (length, at) in enumerate(((1, 0), (3, 0), (3, 1), (3, 2), (8, 0), (8, 4), (8, 7)), 7 * number):
             offsets = [0] * length
             offsets[at] = offset
             if length > 1:
-                offsets[at - 1] = -6144000 if offset > 0 else 6144000
-            cases += shifts(number, 3, 4, offsets, []) + shifts(number, 3, 4, [], offsets)
-    for offsets in ([-2147483648, -2147483648], [2147483647, 2147483647, 2], [6144001, -6144001], [-6144001, 6144001]):
-        cases += shifts(0, 5, 6, offsets, []) + shifts(0, 5, 6, [], offsets)
-    for start, offset in ((-4096, 6144000), (-4096, 6143250), (-4096, 6143624), (-4096, 6143625), (4095, -6143250),
-                          (4095, -6143624), (4095, -6143625), (4095, -6144000), (0, 3071250), (0, 3071624),
-                          (0, 3071625), (0, -3072000), (0, -3072374), (0, -3072375), (0, 3072000), (2000, -4500000),
-                          (-2000, 4500374)):
-        cases += shifts(1, start, 1, [offset], []) + shifts(2, 2, start, [], [offset])
+                offsets[at - 1] = -FAR if offset > 0 else FAR
+            cases += relays(positions(turn, 3, 4), offsets, []) + relays(positions(turn + 1, 3, 4), [], offsets)
+    for number, offsets in enumerate(([-2147483648, -2147483648], [2147483647, 2147483647, 2], [FAR + 1, -FAR - 1],
+                                      [-FAR - 1, FAR + 1])):
+        cases += relays(positions(number, 5, 6), offsets, []) + relays(positions(number + 1, 5, 6), [], offsets)
+    for number, (start, offset) in enumerate((
+            (-4096, 6144000), (-4096, 6143250), (-4096, 6143624), (-4096, 6143625), (4095, -6143250), (4095, -6143624),
+            (4095, -6143625), (4095, -6144000), (0, 3071250), (0, 3071624), (0, 3071625), (0, -3072000), (0, -3072374),
+            (0, -3072375), (0, 3072000), (2000, -4500000), (-2000, 4500374))):
+        cases += relays(positions(number, start, 1, True), [offset], [])
+        cases += relays(positions(number + 1, 2, start, True), [], [offset])
     stream = Stream(7)
     for number in range(60):
         steps = [stream.below(8192) - 4096 for _ in range(2)]
         lists = [[stream.below(2000000) - 1000000 for _ in range(stream.below(6))] for _ in range(2)]
-        cases += shifts(number, *steps, *lists)
+        cases += relays(positions(number, *steps, number % 2 == 0), *lists)
     return cases
 
 
-def shift_contents():
-    """Every kind shifted; each field of a message with a position at both ends of its range and beyond."""
+def relay_edges():
+    """Results at each edge and over it in each of the places 1 to 4, where no other result is over."""
     cases = []
-    for kind in link1.KINDS:
-        given = FIRST.get(kind) or SECOND[kind]
-        cases += [lines.shift(given, x_offsets, y_offsets)
-                  for x_offsets, y_offsets in (([750], [-1500]), ([], []), ([2147483647], [1] * 9))]
-    for kind in link1.WITH_POSITION:
+    for number, place in enumerate(POSITIONS):
+        for axis, sign in itertools.product((1, 2), (1, -1)):
+            for back, feet in ((0, 374), (0, 375), (0, 1000), (1, 750), (1, 1124), (1, 1125)):
+                step, lists = (4095 - back if sign == 1 else -4096 + back), ([sign * feet], [])
+                x, y = (step, 10 * number) if axis == 1 else (10 * number, step)
+                refusal = (9, 2 * place[1] - 2 + axis, 0)
+                cases += relays_answered(link1.GOOD if feet < 750 * back + 375 else refusal,
+                                         [positioned(place, number, x, y)], *(lists if axis == 1 else lists[::-1]))
+    return cases
+
+
+def relay_results():
+    """Every choice of the four results over an edge, in each pair of two positions: the first of them is told."""
+    cases = []
+    for (first, second), chosen in itertools.product(BOTH_POSITIONS, range(16)):
+        over = [place for place in (1, 2, 3, 4) if chosen // 2 ** (place - 1) % 2 == 1]
+        for turn in (0, 1):
+            signs = (1, -1) if (chosen + turn) % 2 == 0 else (-1, 1 - 2 * turn)
+            edges = [4095 if sign == 1 else -4096 for sign in signs * 2]
+            x1, y1, x2, y2 = (edge if place in over else -1 - edge for place, edge in enumerate(edges, 1))
+            octets = image(at_steps(first, chosen, x1, y1), at_steps(second, chosen + 1, x2, y2))
+            cases += relays_answered((9, over[0], 0) if over else link1.GOOD, [octets], [400 * signs[0]],
+                                     [200 * signs[1], 300 * signs[1]])
+    return cases
+
+
+def relay_contents():
+    """Every legal pair relayed; each field of a message with a position at both ends of its range."""
+    cases = []
+    lists = (([750], [-1500]), ([400, 400], []), ([], [400, 400]), ([1, 20, 300, 4000, -5, -60, -700, -8000], [375]),
+             ([-375], [-374, -1, 0, 0, 0, 0, 0, 0]), ([2147483647], [1] * 9))
+    for first, second in LEGAL_PAIRS:
+        octets = image(FIRST[first], SECOND[second])
+        cases += relays_through([octets], [], [])
+        for x_offsets, y_offsets in lists:
+            cases += relays([octets], x_offsets, y_offsets)
+    for kind, which, other in POSITIONS:
         for word, first, last in link1.FIELDS[kind]:
-            cases += [lines.shift(message(kind, **{word: value}), [0], [1, -1])
-                      for value in field_values(word, first, last)]
-    cases += [lines.shift(message("S4", x=4096), [-750], []), lines.shift(message("S8", y=-4097), [], [750]),
-              lines.shift(message("S9", x=4096), [-750], []), lines.shift(message("S9", y=-4097), [], [750])]
-    cases += [lines.shift(changed(FIRST["S9"], **bad), [6144001] * 9, [6144001] * 9) for bad in BAD_CORNERS]
+            lowest, highest = link1.field_range(word, first, last)
+            for value in sorted({lowest, -1, 0, highest} if lowest < 0 else {lowest, highest}):
+                octets = image(*pair_of(message(kind, **{word: value}), which, other))
+                cases += relays_through([octets], [0], [1, -1])
     return cases
 
 
-def shift_troubles():
-    """Shifting what is wrong inside: two fields and more, also beside bad lists; a message without a position too."""
-    bad, cases = [6144001] * 9, []
-    for kind in link1.WITH_POSITION:
-        cases += [lines.shift(given, [0], [1, -1]) for given in wrong_in_two(kind)]
-        cases += [lines.shift(given, bad, bad) for given in wrong_from_each_on(kind)]
-    for kind in link1.TRACKS:
-        cases += [lines.shift(changed(FIRST[kind], **{word: wide[0]}), bad, bad)
-                  for word, [wide] in wrong_values(kind).items()]
-    for kind in ("S3", "S5", "S6"):
-        for word, ways in wrong_values(kind).items():
-            cases += [lines.shift(message(kind, **{word: value}), [750], [])
-                      for values in ways for value in sorted({values[0], values[-1]})]
-        cases += [lines.shift(given, bad, bad) for given in wrong_from_each_on(kind)[:2]]
+def random_relays():
+    """Each legal pair with random-looking fields, relayed by random-looking lists."""
+    stream, cases = Stream(20), []
+    for first, second in LEGAL_PAIRS * 8:
+        lists = [[375 * (stream.below(41) - 20) + stream.below(3) - 1 for _ in range(stream.below(9))] for _ in "XY"]
+        cases += relays([image(stream.message(first), stream.message(second))], *lists)
     return cases
 
 
-def order_of_shifting():
-    """Shifting: every two faults, and all from each on, told as the first, and the message stays."""
-    faults = ("11", "inside", "2 X", "2 Y", "9 X offset", "9 Y offset", "9 X result", "9 Y result")
-    chosen = [[fault] for fault in faults] + [[one, two] for at, one in enumerate(faults) for two in faults[at + 1:]]
-    chosen += [faults[at:] for at in range(len(faults) - 2)]
+def relays_of_damaged():
+    """Each frame bit of two images turned, and each message bit of three with right check bits, relayed."""
     cases = []
+    for octets in (image(FIRST["S4"], SECOND["S8"]), image(FIRST["S9"], SECOND["S9"])):
+        for n in range(1, 129):
+            cases += relays([turned(octets, n)], [400, 400], [-1125])
+    for first, second in (("S8", "S4"), ("S8+", "S3"), ("S6", "S4")):
+        for which, n in itertools.product((1, 2), range(1, 50)):
+            cases += relays([turned_in_message(FIRST[first], SECOND[second], which, n)], [-750], [1500, 374])
+    return cases
+
+
+def relay_buffers():
+    """Relays into buffers of other lengths: of good images and of refused ones, by good lists and by bad ones."""
+    cases = []
+    refused_images = (P[:15], turned(P, 125), N, turned_in_message(FIRST["S9"], SECOND["S9"], 2, 20))
+    for length in (0, 1, 2, 15, 17, 18, 32, 127, 128, 129, 255, 256):
+        for octets in (T, image(FIRST["S4"], SECOND["S8"]), image(FIRST["S9"], SECOND["S9"])):
+            for lists in (([750], []), (BAD, []), ([FAR], [FAR])):
+                cases += relays_answered((2, 0, 0), [octets], *lists, length)
+        for octets in refused_images:
+            cases += relays_answered(link1.open_image(octets)[0], [octets], BAD[:length % 3], [], length)
+    return cases
+
+
+def relays_without_position():
+    """Relays where no message has a position: it passes through, and the lists are checked all the same."""
+    cases = []
+    good = ([], [0], [400, 400], [375], [-375] * 8, [FAR], [-FAR], [FAR] * 8, [-FAR] * 8, [FAR] * 7 + [-FAR])
+    bad = (([0] * 9, 2), ([0] * 16, 2), (BAD, 2), ([FAR + 1], 9), ([-FAR - 1], 9), ([0] * 7 + [FAR + 1], 9),
+           ([2147483647], 9), ([-2147483648] * 8, 9))
+    for first, second in NO_POSITION:
+        octets = image(FIRST[first], SECOND[second])
+        for number, offsets in enumerate(good):
+            cases += relays_through([octets], offsets, good[number - 1]) + relays_through([octets], [], offsets)
+        for number, (offsets, refusal) in enumerate(bad):
+            cases += relays_answered((refusal, 1, 0), [octets], offsets, good[number])
+            cases += relays_answered((refusal, 2, 0), [octets], good[number], offsets)
+            cases += relays([octets], offsets, bad[number - 1][0])
+    return cases
+
+
+def images_refused():
+    """Images that opening refuses: unknown labels, pairs not in the table, what is wrong inside, several faults."""
+    test, blank = message("S0"), message("Blank")
+    faults = ("2", "3", "4", "5", "6a", "6b", "7", "in a", "in b")
+    images = [faulty_image(chosen) for chosen in choices_of(faults, 1) if len(chosen) < 3]
+    unknown = [label for label in range(64) if label not in link1.LABELS.values()]
+    images += [word_image(label_bits(label), link1.message_bits(SECOND["S8"])) for label in unknown[::2]]
+    images += [word_image(link1.message_bits(FIRST["S4"]), label_bits(label)) for label in unknown[1::2]]
+    images += [image(message(first), message(second)) for first in link1.KINDS for second in link1.KINDS
+               if (first, second) not in LEGAL_PAIRS]
+    images += [turned_in_message(test, test, which, n) for which in (1, 2) for n in (7, 14, 28, 43, 49)]
+    images += [turned_in_message(FIRST[kind], blank, 2, n) for kind in ("S4", "S8") for n in (7, 30, 49)]
+    images += [turned_in_message(FIRST["S4+"], SECOND["S3"], 2, n) for n in link1.SPARE["S3"]]
+    images += [turned_in_message(FIRST["S9"], SECOND["S9"], which, n) for which in (1, 2) for n in link1.SPARE["S9"]]
+    images += [image(FIRST["S8+"], changed(SECOND["S3"], request=code)) for code in link1.NOT_USED["request"]]
+    images += [image(FIRST[kind], changed(SECOND["S5"], strength=1)) for kind in ("S4+", "S8+")]
+    for code in link1.NOT_USED["elevation"]:
+        images += [image(changed(FIRST["S6"], elevation=code), SECOND["S4"]),
+                   image(FIRST["S8"], changed(SECOND["S6"], elevation=code))]
+    return images + [(T * 16)[:length] for length in (0, 1, 14, 15, 17, 32, 127, 128, 256)]
+
+
+def relays_refused_as_opened():
+    """Relays of images that opening refuses, beside good lists, and beside a bad buffer, bad lists, far results."""
+    cases = []
+    for number, octets in enumerate(images_refused()):
+        result, _ = link1.open_image(octets)
+        assert result != link1.GOOD
+        cases += relays_answered(result, [octets], [750], [-375])
+        lists = ((BAD, BAD), ([FAR], [-FAR]), ([0] * 16, []), ([], [FAR + 1]))[number % 4]
+        cases += relays_answered(result, [octets], *lists, (16, 15, 0, 17)[number // 4 % 4])
+    return cases
+
+
+# 02 Item 6: what a relay is refused for, in order, a the first message and b the second; corners with spare bits 9, 20.
+RELAY_FAULTS = {"2": (2, 0, 0), "3": (3, 0, 0), "4": (4, 0, 0), "5": (5, 0, 0), "6a": (6, 1, 0), "6b": (6, 2, 0),
+                "7": (7, 0, 0), "in a": (13, 1, 9), "in b": (13, 2, 20), "buffer": (2, 0, 0), "2 X": (2, 1, 0),
+                "2 Y": (2, 2, 0), "9 X": (9, 1, 0), "9 Y": (9, 2, 0), "X a": (9, 1, 0), "Y a": (9, 2, 0),
+                "X b": (9, 3, 0), "Y b": (9, 4, 0)}
+
+
+def faulty_relay(faults, kinds, number):
+    """A relay of two messages of these kinds with these of the faults; those inside are a corner's."""
+    x1, y1, x2, y2 = (4095 if fault in faults else -4096 for fault in ("X a", "Y a", "X b", "Y b"))
+    if "7" in faults:  # a corner beside a track, the corner where its spare bits are wanted
+        kinds = ("S9", "S4") if "in a" in faults else ("S8", "S9")
+    bits = {1: link1.message_bits(at_steps(kinds[0], number, x1, y1)),
+            2: link1.message_bits(at_steps(kinds[1], number + 1, x2, y2))}
+    for which, fault, n in ((1, "in a", 9), (2, "in b", 20)):
+        if fault in faults and kinds[which - 1] == "S9":
+            bits[which][n] = 1
+    for which, fault, label in ((1, "6a", 37), (2, "6b", 4)):
+        if fault in faults:
+            link1.write_bits(bits[which], 1, 6, label)
+    turns = [n for fault, n in (("3", 2), ("4", 128), ("5", 127)) if fault in faults]
+    octets = turned(word_image(bits[1], bits[2]), *turns)
+    lists = []
+    for axis in "XY":
+        over = any(fault in faults for fault in (axis + " a", axis + " b"))
+        offsets = ([FAR + 1] if "9 " + axis in faults else []) + [375 if over else 1]
+        lists.append(offsets + [0] * (9 - len(offsets)) if "2 " + axis in faults else offsets)
+    length = (0, 15, 17, 128)[number % 4] if "buffer" in faults else 16
+    first_told = next(result for fault, result in RELAY_FAULTS.items() if fault in faults)
+    return relays_answered(first_told, [octets[:15] if "2" in faults else octets], *lists, length)
+
+
+def order_of_relaying():
+    """Relaying: each fault, every two, and all from each on, told as the first; of corners and of two tracks."""
+    cases, inside, faults = [], ("in a", "in b"), tuple(RELAY_FAULTS)
+    chosen = [[fault] for fault in faults] + list(itertools.combinations(faults, 2))
+    chosen += [faults[at:] for at in range(len(faults) - 2)]
     for number, some in enumerate(chosen):
-        offsets = {}
-        for axis in "XY":
-            offsets[axis] = [375 if "9 %s result" % axis in some else 1]
-            if "9 %s offset" % axis in some:
-                offsets[axis] = [6144001] + offsets[axis]
-            if "2 %s" % axis in some:
-                offsets[axis] = offsets[axis] + [0] * (9 - len(offsets[axis]))
-        given = [track(number, x=4095, y=4095), corner(number, x=4095, y=4095)]
-        if "inside" in some:
-            given = [changed(given[0], quality=5), changed(given[1], site=64)]
-        if "11" in some:
-            given = [message("S5", strength=1) if "inside" in some else message("S6", age=3)]
-        cases += [lines.shift(one, offsets["X"], offsets["Y"]) for one in given]
+        cases += faulty_relay(some, ("S9", "S9"), number)
+        if not any(fault in some for fault in inside):
+            cases += faulty_relay(some, (("S4", "S8"), ("S8", "S4"), ("S4", "S4"), ("S8", "S8"))[number % 4], number)
+    tracks = [fault for fault in faults if fault not in inside]
+    for number in range(len(tracks) - 2):
+        cases += faulty_relay(tracks[number:], ("S8", "S4"), number)
+    return cases
+
+
+def relays_of_digits():
+    """Digits left in absent modes, relayed: zeros stand there afterwards; beside what is still refused."""
+    cases = []
+    for number, octets in enumerate(images_with_digits() + random_images_with_digits()):
+        cases += relays_through([octets], [], [])
+        for sign in (1, -1) if number % 5 == 0 else (1,):
+            lists = ([375 * sign * (number % 7)], [-400 * sign, -400 * sign])
+            assert link1.relay(octets, *lists, LENT16) == link1.relay(link1.zeroed(octets), *lists, LENT16)
+            cases += relays([octets], *lists)
+    left = turned_in_message(FIRST["S8+"], message("S3", emergency=1), 2, *digits_of(*MODES))
+    cases += relays_answered((5, 0, 0), [turned(left, 121 + j) for j in range(1, 7)], [750], [])
+    cases += relays_answered((5, 0, 0), [checks_kept(left)], [750], [])
+    for n in link1.SPARE["S3"]:
+        cases += relays_answered((13, 2, n), [turned_in_message(FIRST["S4+"], message("S3"), 2, n, *digits_of(*MODES))],
+                                 [], [750])
+    cases += relays_answered((9, 1, 0), [left], [-FAR], [FAR]) + relays_answered((9, 2, 0), [left], [], [FAR])
+    return cases + relays_answered((2, 0, 0), [left], [], [], 15) + relays_answered((2, 2, 0), [left], [], BAD)
+
+
+# 02 Item 6: there by a list, and back by one offset that is the opposite of its sum.
+
+def odd_375(feet):
+    """An odd multiple of 375."""
+    return feet % 750 == 375
+
+
+def given_back(octets, back, sums):
+    """02 Item 6: on each axis whose sum is no odd multiple of 375 the positions are as they were, on both the image."""
+    _, pair = link1.open_image(octets)
+    _, again = link1.open_image(back)
+    kept = [word for word, feet in zip("xy", sums) if not odd_375(feet)]
+    return (all(one[1].get(word) == two[1].get(word) for one, two in zip(pair, again) for word in kept)
+            and (len(kept) < 2 or back == link1.zeroed(octets)))
+
+
+def there_and_back(images, x_offsets, y_offsets):
+    """Images relayed and, where that is not refused, relayed back."""
+    cases, sums = [], (sum(x_offsets), sum(y_offsets))
+    for octets in images:
+        cases += relays([octets], x_offsets, y_offsets)
+        result, there = link1.relay(octets, x_offsets, y_offsets, bytes(16))
+        if result == link1.GOOD:
+            result, back = link1.relay(there, [-sums[0]], [-sums[1]], bytes(16))
+            assert result != link1.GOOD or given_back(octets, back, sums)
+            cases += relays([there], [-sums[0]], [-sums[1]])
+    return cases
+
+
+def relays_and_back():
+    """Relays there and back: sums about each half step, large ones, lists of many, digits in absent modes."""
+    cases = []
+    lists = ([1], [-1], [374], [-374], [376], [-376], [750], [-749], [751], [400, 400], [-400, -400], [1124], [-1126],
+             [100] * 7, [12345, -54321], [750000, 1], [-1500000, -373], [47] * 8, [FAR, -FAR, 376])
+    for number, offsets in enumerate(lists):
+        other = lists[(4 * number + 3) % len(lists)]
+        for turn, step in enumerate((0, -1, 1, 4095 if sum(offsets) < 0 else -4096), 4 * number):
+            cases += there_and_back(positions(turn, step, 2 * number, True), offsets, other)
+        cases += there_and_back(positions(number, -number, 2 * number), other[::-1], offsets)
+    stream = Stream(21)
+    for first, second in LEGAL_PAIRS * 2:
+        octets = image(stream.message(first), stream.message(second))
+        cases += there_and_back([octets], [stream.below(200000) - 100000], [stream.below(2000) - 1000])
+    for number, octets in enumerate(images_with_digits()[::4]):
+        cases += there_and_back([octets], [100 * number], [-5000, 70 * number])
+    for step, feet in ((-4096, 6143624), (4095, -6143624), (-4096, 6143250), (4095, -6143250), (0, 3071250)):
+        cases += there_and_back(positions(step + feet, step, step, True), [feet], [feet])
+    return cases
+
+
+def relays_half_way_back():
+    """Relays there and back by odd multiples of 375; sums over the limit of an offset, so that back is refused."""
+    cases = []
+    for number, feet in enumerate((375, -375, 1125, -1125, 1875, 749625)):
+        for turn, step in enumerate((0, -1, 1, -2, 2, 4095 if feet < 0 else -4096), number):
+            x_offsets, y_offsets = [feet], [[-feet], [200], []][turn % 3]
+            lists = (x_offsets, y_offsets) if turn % 2 == 0 else (y_offsets, x_offsets)
+            cases += there_and_back(positions(turn, step, step, True), *lists)
+    for number, (first, second) in enumerate(NO_POSITION):
+        octets = image(FIRST[first], SECOND[second])
+        for offsets in ([FAR, 1], [-FAR, -1], [FAR] * 8, [-FAR, -FAR, FAR - 1, -2]):
+            cases += there_and_back([octets], *((offsets, [7]) if number % 2 == 0 else ([7], offsets)))
+        cases += there_and_back([octets], [FAR], [-FAR]) + there_and_back([octets], [-FAR, -1], [FAR, 1])
+    for octets in positions(0, -4096, 0, True) + positions(1, -4096, 0, True):
+        cases += there_and_back([octets], [FAR, 1], []) + there_and_back([octets], [FAR, -375], [])
     return cases
 
 
@@ -1436,6 +1728,27 @@ def texts():
 
 # How lines are written.
 
+def relay_writings():
+    """Relays written in other ways: as many offsets and octets as a line may have, octets in several parts, none."""
+    by_hand = ((" 16 by and of", 16, [], [], b""), (" 0 by and of", 0, [], [], b""),
+               (" 16 by and of x", 16, [], [], b""), (" 2 by 1 and 2 of x x", 2, [1], [2], b""),
+               (" 2 by and of x00ba*14 xff", 2, [], [], T), (" 0 by and of x00ba*14 xff", 0, [], [], T),
+               (" 256 by and of x00ba*14 xff", 256, [], [], T), (" 16 by and of x00 xba*14 xff", 16, [], [], T),
+               (" 16 by 0 and -1 of :0 x xba*7 xba*7 xff*1", 16, [0], [-1], T),
+               (" 16 by 400 400 and of x00c480*13 xbb", 16, [400, 400], [], P),
+               (" 16 by and 400 400 of x00c4 x80*13 xbb", 16, [], [400, 400], P),
+               (" 16 by -2147483648 and of x00c480*13 xbb", 16, [-2147483648], [], P),
+               (" 16 by and 2147483647 of x00c480*13 xbb", 16, [], [2147483647], P),
+               (" 16 by%s and%s of x00c480*13 xbb" % (" 1" * 16, " 2" * 16), 16, [1] * 16, [2] * 16, P),
+               (" 16 by and%s of x00c480*13 xbb" % (" -3" * 16), 16, [], [-3] * 16, P),
+               (" 16 by and of =of", 16, [], [], b"of"), (" 16 by 1 and 2 of =by =and =of", 16, [1], [2], b"byandof"),
+               (" 16 by and of =0123456789abcdef", 16, [], [], b"0123456789abcdef"),
+               (" 16 by and of x00*65664", 16, [], [], bytes(65664)),
+               (" 16 by and of :" + "0" * 8172, 16, [], [], bytes(8172)))
+    return [("relay" + text, lines.relay(length, x_offsets, y_offsets, octets)[1])
+            for text, length, x_offsets, y_offsets, octets in by_hand]
+
+
 def other_writings():
     """Octets written in other ways, notes and empty lines."""
     cases = [lines.verdict(T, ["x00", "xba*14", "xff"]), lines.verdict(T, ["x00ba*14", "xff"]),
@@ -1458,7 +1771,7 @@ def other_writings():
                          ("x5a =abc x00*12 :09", b"Zabc" + bytes(13) + b"\t"),
                          ("=0123456789abcdef01", b"0123456789abcdef01")):
         cases.append(("resume_octets " + text, resumes(octets[:16], octets[16:])[1]))
-    cases += [("", ""), ("", "")]
+    cases += relay_writings() + [("", ""), ("", "")]
     cases += [(text, text) for text in ("#", "##", "#note", "# two  spaces and one at the end ", "# verdict x00",
                                         "#\x00\x01\t\r\x7f\x80\xc3\xa9\xff odd octets")]
     return cases
@@ -1482,8 +1795,9 @@ def odd_numbers():
     texts += ["refusal_at 1 %s" % word for word in words[:4] + ["-1", "256"]]
     for parts in ("%s 1 1", "1 %s 1", "1 1 %s"):
         texts += ["refusal_inside " + parts % word for word in words[:4] + ["-1", "256"]]
-    texts += ["shift S4 number 1 quality 1 x 1 y 1 by %s and" % word for word in words + ["2147483648", "-2147483649"]]
-    texts += ["shift S4 number 1 quality 1 x 1 y 1 by and %s" % word for word in words + ["2147483648", "-2147483649"]]
+    texts += ["relay %s by 1 and 1 of x00" % word for word in words + ["-1", "257", "1000", "65552"]]
+    for parts in ("16 by %s and of x00", "16 by and %s of x00", "16 by 1 %s 1 and 1 of x00", "16 by 1 and 1 %s of x00"):
+        texts += ["relay " + parts % word for word in words + ["2147483648", "-2147483649", "4294967296", "0375"]]
     texts += ["hear :0*" + word for word in words + ["0", "-1", "65665", ""]]
     texts += ["hear_octets x00*" + word for word in words + ["0", "-1", "65665", ""]]
     texts += ["resume_octets x00*" + word for word in words + ["0", "-1", "15", "65665", ""]]
@@ -1523,6 +1837,38 @@ def odd_messages():
     return [lines.not_understood("kind_of" + (" " + text if text else "")) for text in texts]
 
 
+def odd_relays():
+    """Relays with a word or part that is wrong, missing, too many or out of order; the shift that is none any more."""
+    p, s4 = "x00c480*13 xbb", "S4 number 1 quality 1 x 1 y 1"
+    many = " 1" * 17
+    texts = ["", " ", " 16", " 16 ", " by", " of", " by and of", " 16 by", " 16 by and", " 16 by and ",
+             " 16 by 1 and 2", " 16 by 1 and 2 " + p, " 16 by 1 of x00", " 16 by of", " 16 by 1 2 of " + p,
+             " 16 and of " + p, " 16 1 and 2 of " + p, " 16 of " + p, " 16 " + p, " " + p, " 16 and 1 by 2 of " + p,
+             " 16 by 1 of 2 and " + p, " 16 of %s by 1 and 2" % p, " by 1 and 2 of 16 " + p, " by 1 and 2 of " + p,
+             " 16 by and and of " + p, " 16 by 1 and 2 and of " + p, " 16 by 1 and 2 and 3 of " + p,
+             " 16 by by and of " + p, " 16 by 1 by and of " + p, " 16 by and by of " + p, " 16 by of and of " + p,
+             " 16 by and of of " + p, " 16 by and of and of " + p, " 16 by and of %s of" % p,
+             " 16 by and of %s and" % p, " 16 By 1 and 2 of " + p, " 16 by 1 And 2 of " + p, " 16 by 1 and 2 Of " + p,
+             " 16 BY 1 AND 2 OF " + p, " 16 bye 1 and 2 of " + p, " 16 by 1 ands 2 of " + p, " 16 by 1 and 2 off " + p,
+             "16 by and of " + p, " 16by and of " + p, " 16 by1 and of " + p, " 16 by 1and of " + p,
+             " 16 by and1 of " + p, " 16 by and 1of " + p, " 16 by and of" + p, " 257 by and of",
+             " 257 by 1 and 2 of " + p, " -1 by and of", " 16 16 by and of " + p, " x10 by and of " + p,
+             " :16 by and of " + p, " 16 by x01 and of " + p, " 16 by and :1 of " + p, " 16 by =1 and of " + p,
+             " 16 by 1, 2 and of " + p, " 16 by 1 and 2 of 3", " 16 by 1 and 2 of 00c4", " 16 by and of x0",
+             " 16 by and of xBA", " 16 by and of x*3", " 16 by and of x 00", " 16 by and of ", " 16 by and of %s " % p,
+             "  16 by and of " + p, " 16  by and of " + p, " 16 by  and of " + p, " 16 by 1  2 and of " + p,
+             " 16 by and  of " + p, " 16 by and of  " + p, " 16 by%s and of %s" % (many, p),
+             " 16 by and%s of %s" % (many, p), " 16 by%s and%s of %s" % (many, many, p), " 16 by%s and of" % (many * 2),
+             " 16 by and of x00*65665", " 16 by and of x00*65664 x00", " 16 by and of :" + "0" * 8173,
+             " 16 by and of\r", " 16 by and of x00\r", " 16 by and of x00\x00", "\t16 by and of " + p,
+             " 16 by and\tof " + p, " 16 by 1\xa02 and of " + p, " 16 by and of S0 S0", " 16 by 1 and 2 of " + s4,
+             " %s by 1 and 2" % s4, " 16 %s by 1 and 2 of %s" % (s4, p)]
+    texts = ["relay" + text for text in texts] + ["Relay 16 by and of " + p, "RELAY 16 by and of " + p]
+    texts += [word + " 16 by and of " + p for word in ("relays", "relay_", "rela", "shift", "Shift", "move")]
+    return texts + ["shift", "shift " + s4, "shift %s by 1 and 2" % s4, "shift %s by and" % s4, "shift S0 by and",
+                    "shift S9 area 1 site 1 number 1 drop 1 x 1 y 1 by 400 400 and"]
+
+
 def odd_lines():
     """Lines that are not understood for other reasons; the program goes on behind each."""
     s4, s9 = "S4 number 1 quality 1 x 1 y 1", "S9 area 1 site 1 number 1 drop 1 x 1 y 1"
@@ -1541,19 +1887,15 @@ def odd_lines():
              "verdict x00*", "verdict x00* 3", "verdict x00 *3", "verdict x00*3 *3", "verdict x00*65664 x00",
              "verdict x00 x00*65664", "verdict x00*65665", "hear x00*40000 :1*25665", "hear 01", "hear :01 2",
              "track_text 1 x00*65664 x00", "search 0 x00*65664 :0", "close S0 S0 x00*65665", "verdict ::0",
-             "verdict xx00", "shift", "shift " + s4, "shift %s by" % s4, "shift %s and" % s4, "shift %s 1 and 1" % s4,
-             "shift %s by 1" % s4, "shift %s by 1 and 2 and" % s4, "shift %s by by 1 and" % s4,
-             "shift %s and 1 by 1" % s4, "shift %s By 1 and" % s4, "shift %s by 1 And" % s4, "shift by 1 and 1",
-             "shift S4 by and", "shift %s by 1 and x01" % s4, "shift %s by%s and" % (s4, " 1" * 17),
-             "shift %s by and%s" % (s4, " 1" * 17), "shift S0 S0 by and", "\x00", "\x00\x00", "\xff\xfe", "\x7f",
-             "\xc3\xa9", "\xe2\x82\xac 1", "verdict\tx00", "\tverdict x00", "verdict x00\r", "verdict\x00x00",
+             "verdict xx00", "\x00", "\x00\x00", "\xff\xfe", "\x7f", "\xc3\xa9", "\xe2\x82\xac 1",
+             "verdict\tx00", "\tverdict x00", "verdict x00\r", "verdict\x00x00",
              "verdict x00\x00", "label S4\x00", "label S4\r", "hear :0\x7f1", "hear :0\xff", "numbers\x00", "numbers\r",
              "altitude 1\x0b", "altitude \xb2", "\r", "\x1a", "\x1b[0m", "label S4\xa0", "kind_named\xa01",
              "verdict :" + "0" * 8184, "x" * 8193, "numbers" + " " * 8186, "label S9 S9", "label S.9", "label s9",
              "label 5", "close S0 S9+ x00*16", "close S9 S9 x00*16", "close " + s9, "close %s x00*16" % s9,
-             "close %s S9 x00*16" % s9, "close S9 %s x00*16" % s9, "shift S9 by and", "shift " + s9,
-             "shift %s by 1" % s9, "shift %s and" % s9, "refusal_inside", "refusal_inside 1", "refusal_inside 1 2",
-             "refusal_inside 1 2 3 4", "refusal_inside 1 2 3 ", "refusal_inside 1 2 x03", "refusal_of 1 2 3",
+             "close %s S9 x00*16" % s9, "close S9 %s x00*16" % s9, "refusal_inside", "refusal_inside 1",
+             "refusal_inside 1 2", "refusal_inside 1 2 3 4", "refusal_inside 1 2 3 ", "refusal_inside 1 2 x03",
+             "refusal_of 1 2 3",
              "hear_octet", "hear_octet x00", "Hear_octets x00", "HEAR_OCTETS x00", "hear_octets01", "hear_octetsx00",
              "hear_octets_ x00", "hear octets x00", "hear_octets ", "hear_octets 01", "hear_octets 0", "hear_octets x0",
              "hear_octets x000", "hear_octets xBA", "hear_octets x0g", "hear_octets :01 2", "hear_octets x00 ",
@@ -1564,6 +1906,7 @@ def odd_lines():
              "resume_octets 1 0 x00*16", "resume_octets :0 0 x00*16", "resume_octets x00*16 0", "resume_octets x00*16 ",
              "resume_octet x00*16", "Resume_octets x00*16", "resume_octetsx00*16", "resume octets x00*16",
              "resume_octets x00*65664 x00", "resume_octets =0123456789abcde"]
+    texts += odd_relays()
     cases = []
     for number, text in enumerate(texts):
         cases.append(lines.not_understood(text))
@@ -1588,7 +1931,9 @@ GROUPS = (examples, names, pairs_closed, pairs_opened, labels_opened, whole_mess
           octets_of_noise, octet_windows, octet_windows_damaged, octet_windows_random, octets_backwards,
           aligned_captures, two_frame_captures, damaged_captures, plain_captures, long_captures, striped_captures,
           false_lock_captures, every_start, frames_at_the_end, marks_in_step, frames_from_each_octet,
-          shifts_around_steps, shifts_by_lists, shift_limits, shift_contents, shift_troubles, order_of_shifting,
+          relays_around_steps, relays_by_lists, relay_limits, relay_edges, relay_results, relay_contents, random_relays,
+          relays_of_damaged, relay_buffers, relays_without_position, relays_refused_as_opened, order_of_relaying,
+          relays_of_digits, relays_and_back, relays_half_way_back,
           altitudes, text_characters, texts, other_writings, odd_numbers, odd_messages, odd_lines, last_line)
 
 

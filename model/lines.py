@@ -150,10 +150,10 @@ def search(start, capture):
             answer(result, *([position] if result == link1.GOOD else [])))
 
 
-def shift(message, x_offsets, y_offsets):
-    result, after = link1.shift(message, x_offsets, y_offsets)
-    return (line("shift", message_words(message), "by", *x_offsets, "and", *y_offsets),
-            answer(result, message_words(after)))
+def relay(length, x_offsets, y_offsets, image):
+    result, after = link1.relay(image, x_offsets, y_offsets, bytes([5]) * length)
+    return (line("relay", length, "by", *x_offsets, "and", *y_offsets, "of", *octet_parts(image)),
+            answer(result, octet_part(after)))
 
 
 def altitude(feet):

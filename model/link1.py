@@ -7,8 +7,8 @@ Every answer begins with the number, the place and the bit (02 Item 4), (0, 0, 0
 
 GOOD = (0, 0, 0)
 
-# 01 'Numbers a caller may get back', success first; 02 Item 4 strikes 8 and adds 12 to 15.
-NUMBERS = (0, 1, 2, 3, 4, 5, 6, 7, 9, 10, 11, 12, 13, 14, 15)
+# 01 'Numbers a caller may get back', success first; 02 Item 4 strikes 8 and adds 12 to 15; 02 Item 6 strikes 11.
+NUMBERS = (0, 1, 2, 3, 4, 5, 6, 7, 9, 10, 12, 13, 14, 15)
 
 # 01 'On board and left ashore'; 02 Item 1: S.9 joins the kinds.
 KINDS = ("Blank", "S0", "S3", "S4", "S4+", "S5", "S6", "S8", "S8+", "S9")
@@ -99,6 +99,7 @@ def field_range(word, first, last):
     return 0, values - 1
 
 # 02 Item 4, what is wrong inside a message: 12 fixed pattern, 13 spare bit, 14 code not used, 15 number too wide.
+# 02 Item 6: what is relayed was opened, so that 15 is closing's alone.
 INSIDE = (12, 13, 14, 15)
 
 def field_troubles(message):
@@ -336,7 +337,7 @@ def search(capture, start):
             return GOOD, position
     return (10, 0, 0), None
 
-# 01 'The shift', of a track's position; 02 Item 1: the corner is shifted as a track is, 11 is not given for it.
+# 01 'The shift', of a track's position; 02 Item 1: the corner is shifted as a track is.
 TRACKS = ("S4", "S4+", "S8", "S8+")
 WITH_POSITION = TRACKS + ("S9",)
 
@@ -345,27 +346,36 @@ def nearest_step(feet):
     steps = (abs(feet) + 375) // 750
     return steps if feet >= 0 else -steps
 
-def shift(message, x_offsets, y_offsets):
-    """01 'Orders of checks', 02 Item 4: 11, 15, 2 X, 2 Y, 9 X offsets, 9 Y offsets, 9 X result, 9 Y result."""
+def moved(message, x_offsets, y_offsets):
+    """01 'The shift': 750 times the old value plus the sum. 02 Item 6: without a position it passes through."""
     kind, fields = message
     if kind not in WITH_POSITION:
-        return (11, 0, 0), message
-    answer = told(field_troubles(message), 1)
+        return message
+    return kind, dict(fields, x=nearest_step(750 * fields["x"] + sum(x_offsets)),
+                      y=nearest_step(750 * fields["y"] + sum(y_offsets)))
+
+def relay(image, x_offsets, y_offsets, buffer):
+    """02 Item 6: opening's, 2 buffer, 2 X, 2 Y, 9 X offsets, 9 Y offsets, 9 on results: X, Y first, X, Y second.
+
+    The lists are checked also where no message has a position, and serve both.
+    """
+    answer, pair = open_image(image)
     if answer != GOOD:
-        return answer, message
+        return answer, buffer
+    if len(buffer) != 16:
+        return (2, 0, 0), buffer
     lists = ((1, x_offsets), (2, y_offsets))
-    for axis, offsets in lists:
+    for place, offsets in lists:
         if len(offsets) > 8:
-            return (2, axis, 0), message
-    for axis, offsets in lists:
+            return (2, place, 0), buffer
+    for place, offsets in lists:
         if any(offset < -6144000 or offset > 6144000 for offset in offsets):
-            return (9, axis, 0), message
-    x = nearest_step(750 * fields["x"] + sum(x_offsets))
-    y = nearest_step(750 * fields["y"] + sum(y_offsets))
-    for axis, steps in ((1, x), (2, y)):
-        if steps < -4096 or steps > 4095:
-            return (9, axis, 0), message
-    return GOOD, (kind, dict(fields, x=x, y=y))
+            return (9, place, 0), buffer
+    first, second = (moved(message, x_offsets, y_offsets) for message in pair)
+    for place, (kind, fields), word in ((1, first, "x"), (2, first, "y"), (3, second, "x"), (4, second, "y")):
+        if kind in WITH_POSITION and (fields[word] < -4096 or fields[word] > 4095):
+            return (9, place, 0), buffer
+    return close_pair(first, second, buffer)
 
 def altitude(feet):
     """01 'Messages', altitude from feet; 001 Annex C Appendix 3 paragraph 7.2. No half falls on whole feet."""

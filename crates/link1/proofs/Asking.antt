@@ -35,7 +35,7 @@ use Rattle.pair.specs.Opening as opening
 use Rattle.pair.specs.Closing.{closeRefusal, closeImage}
 use Rattle.pair.specs.declared.Opened.{Opened}
 use Rattle.pair.specs.declared.Opened.the-variants as O
-use Rattle.shift.specs.Shift.{shiftedOf}
+use Rattle.relay.specs.Relay.{relayRefusal, relayImage}
 
 -- ---- the rows' words
 
@@ -77,8 +77,8 @@ pub data Asked : Type 0 where
   -- a text to make a track number of, a track number to write into a buffer
   number-of : String → Asked
   text-of : ℕ → List ℕ → Asked
-  -- a message to shift by offsets on X and on Y
-  shift-by : Message → List ℤ → List ℤ → Asked
+  -- an image to relay by offsets on X and on Y, into a buffer
+  relay-by : List ℕ → List ℤ → List ℤ → List ℕ → Asked
   -- feet to make an altitude of
   altitude-of : ℤ → Asked
 
@@ -91,7 +91,6 @@ pub data Value : Type 0 where
   buffer : List ℕ → Value
   heard : Bool → List ℕ → Value
   heard-at : Bool → ℕ → List ℕ → Value
-  message : Message → Value
   value : ℕ → Value
 
 -- 01's number and place, 02's bit, and the value
@@ -158,7 +157,7 @@ answer (search-from start capture) =
     tell (searching.refusalOf (searchOf capture start)) (value (positionFound (searchOf capture start)))
 answer (number-of text) = tell (tracks.refusalOf (trackedOf (octets text))) (value (numberIn (trackedOf (octets text))))
 answer (text-of number b) = nameOf number b
-answer (shift-by msg xs ys) = tell (shiftedOf msg xs ys .refusal) (message (shiftedOf msg xs ys .message))
+answer (relay-by image xs ys b) = tell (relayRefusal image xs ys b) (buffer (relayImage image xs ys b))
 answer (altitude-of feet) = tell (heights.refusalOf (heightOf feet)) (valueHeight (heightOf feet))
 
 -- ---- a row

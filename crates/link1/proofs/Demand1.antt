@@ -33,13 +33,11 @@ use Rattle.pair.specs.Opening as opening
 use Rattle.pair.specs.Closing.{closeChecks, closeRefusal, closeImage}
 use Rattle.pair.specs.declared.Opened.{Opened}
 use Rattle.pair.specs.declared.Opened.the-variants as O
-use Rattle.shift.specs.Positions.{placedAt}
-use Rattle.shift.specs.Shift.{newX, newY, shiftChecks, shiftRefusal, shiftedOf}
-use Rattle.shift.specs.declared.Shifted.{Shifted}
+use Rattle.relay.specs.Relay.{firstMessage, secondMessage, relayChecks, relayRefusal, imageShifted, relayImage}
 use Rattle.bits.proofs.TestLaws.{zero-one}
 use Rattle.refusal.proofs.CheckLaws.{ofTable, first-of-table, Refuses, buffer-left, refusal-told}
 use Rattle.pair.proofs.FirstTrouble.{open-bits, close-bits}
-use Rattle.shift.proofs.Theorems.{shift-bits}
+use Rattle.relay.proofs.Theorems.{relay-bits}
 use Rattle.frame.proofs.verdict.Reads as verdict
 use Rattle.line.proofs.Receiver.step.Reads as step
 use Rattle.line.proofs.send.Reads as send
@@ -50,13 +48,13 @@ use Rattle.track.proofs.track_number.Reads as track-number
 use Rattle.kind.proofs.kind_named.Reads as kind-named
 use Rattle.pair.proofs.open.Reads as open-call
 use Rattle.pair.proofs.close.Reads as close
-use Rattle.shift.proofs.shift.Reads as shift
+use Rattle.relay.proofs.relay.Reads as relay
 -- what 12 to 15 tell (02, item 4): the first message that has a trouble, and of its troubles the cause and the bit of the first; opening never tells
--- 15, closing neither 12 nor 13
+-- 15, closing neither 12 nor 13; what a relay tells, opening told
 pub use Rattle.pair.proofs.FirstTrouble.{open-first, close-first, open-not-wide, close-value}
-pub use Rattle.shift.proofs.Theorems.{shift-first}
+pub use Rattle.relay.proofs.Theorems.{relay-first}
 
--- `ofTable r` is: number 0 with place 0 and bit 0; a number of 1 to 7 or 9 to 11 with a place of 0, 1 or 2 and bit 0; or a number of 12 to 15
+-- `ofTable r` is: number 0 with place 0 and bit 0; a number of 1 to 7, 9 or 10 with a place of 0, 1 or 2, of 9 also 3 or 4, and bit 0; or a number of 12 to 15
 -- with place 1 or 2 and a bit of 7 to 49. `Refuses r`: the number is not 0
 
 -- ---- calls that answer a refusal
@@ -77,6 +75,16 @@ unfolding closeRefusal closeImage
 close-refuses κs a e r p =
     buffer-left (closeChecks (a .0) (a .1 .0) (now (a .1 .1 .0))) refl (close-bits (a .0) (a .1 .0) (now (a .1 .1 .0)))
     (imageOf (messageWord (a .0)) (messageWord (a .1 .0))) _ (p .0) (p .1)
+
+pub relay-refuses : (κs : Lfts 4) (a : _) (e : _) (r : Refusal) → relay.Post κs a r e
+    → (ofTable r ≡ true) × (Refuses r → now (e .1 .1 .1 .0) ≡ now (a .1 .1 .1 .0))
+unfolding relayRefusal relayImage
+relay-refuses κs a e r p =
+    let image = now (a .0) in
+    let xs = now (a .1 .0) in
+    let ys = now (a .1 .1 .0) in
+    let buffer = now (a .1 .1 .1 .0) in
+    buffer-left (relayChecks image xs ys buffer) refl (relay-bits image xs ys buffer) (imageShifted (firstMessage image) (secondMessage image) xs ys) buffer (p .0) (p .1)
 
 pub track-text-refuses : (κs : Lfts 1) (a : _) (e : _) (r : Refusal) → track-text.Post κs a r e
     → (ofTable r ≡ true) × (Refuses r → now (e .1 .0) ≡ now (a .1 .0))
@@ -124,7 +132,7 @@ no-number x = refl
 pub no-altitude : (x : Refusal) → heights.altitudeIn (H.Refused x) ≡ 0
 no-altitude x = refl
 
--- ---- calls that hand back state or message in either case
+-- ---- a call that hands back state in either case
 
 -- a level that is refused leaves the receiver as it was, with no frame and sixteen zero octets
 pub step-refuses : (κs : Lfts 0) (a : _) (e : _) (r : Heard) → step.Post κs a r e
@@ -138,11 +146,3 @@ step-refuses κs a e r p = go (refused (a .1 .0)) p
       λ h. (ap (λ (h : Heard). h .receiver) q, ap (λ (h : Heard). h .frame) q, ap (λ (h : Heard). h .image) q),
     )
     go false q = (ap (λ (h : Heard). ofTable (h .refusal)) q, λ h. absurd (h (ap (λ (h : Heard). h .refusal .number) q)))
-
--- a shift that is refused leaves the message as it was
-pub shift-refuses : (κs : Lfts 2) (a : _) (e : _) (r : Shifted) → shift.Post κs a r e
-    → (ofTable (r .refusal) ≡ true) × (Refuses (r .refusal) → r .message ≡ a .0)
-unfolding shiftedOf shiftRefusal
-shift-refuses κs a e r p =
-    buffer-left (shiftChecks (a .0) (now (a .1 .0)) (now (a .1 .1 .0))) refl (shift-bits (a .0) (now (a .1 .0)) (now (a .1 .1 .0)))
-    (placedAt (a .0) (newX (a .0) (now (a .1 .0))) (newY (a .0) (now (a .1 .1 .0)))) (a .0) (ap (λ (s : Shifted). s .refusal) p) (ap (λ (s : Shifted). s .message) p)

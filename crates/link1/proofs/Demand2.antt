@@ -14,8 +14,9 @@ pub use Rattle.pair.proofs.Demand2.{closed-opens, legal-closes, closes-legal}
 pub use Rattle.pair.proofs.Table.{pair-at, pairs-counted, pair-rules}
 -- a search gives the first good frame's position, and where it gives none there is none
 pub use Rattle.capture.proofs.SearchLaws.{found-least, none-found}
--- a shift that is not refused gives the message at the steps nearest to the exact sums in feet, and there is only one nearest step
-pub use Rattle.shift.proofs.Theorems.{shift-nearest}
+-- a relay that is not refused writes an image that opens as the pair that came, each position at the steps nearest to the exact sums in feet and all else as it
+-- was (02, item 6); there is only one nearest step
+pub use Rattle.relay.proofs.Theorems.{relay-nearest}
 pub use Rattle.units.proofs.Nearest.{nearest-only}
 -- over 375 feet an altitude is the nearest step
 pub use Rattle.units.proofs.Nearest.{height-nearest}

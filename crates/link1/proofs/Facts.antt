@@ -39,10 +39,10 @@ use Rattle.pair.specs.Pairs.{pairOf}
 use Rattle.pair.specs.Opening.{openRefusal, openOf}
 use Rattle.pair.specs.Closing.{closeRefusal, closeImage}
 use Rattle.pair.specs.Zeroed.{zeroedImage}
-use Rattle.shift.specs.Shift.{shiftRefusal, shiftedOf}
-use Rattle.link1.proofs.Asking.{verdict-of, open-image, kind-named, close-pair, send-after, hear-after, hear-octets, search-from, number-of, text-of, shift-by}
-use Rattle.link1.proofs.Asking.{nothing, pair, buffer, heard, heard-at, message, value, told, toldBit, answer, Row, _⇒_, answers, expected, track, at, octets, levels}
-use Rattle.link1.proofs.Examples.{imageT}
+use Rattle.relay.specs.Relay.{relayRefusal, relayImage}
+use Rattle.link1.proofs.Asking.{verdict-of, open-image, kind-named, close-pair, send-after, hear-after, hear-octets, search-from, number-of, text-of, relay-by}
+use Rattle.link1.proofs.Asking.{nothing, pair, buffer, heard, heard-at, value, told, toldBit, answer, Row, _⇒_, answers, expected, track, at, octets, levels}
+use Rattle.link1.proofs.Examples.{imageT, imageN}
 
 -- ---- labels and bit places (01, 'Messages'; S.9: 02, item 1)
 
@@ -234,6 +234,26 @@ imageAmplifyingB = 0 ∷ 0xd7 ∷ 0x84 ∷ 0xb9 ∷ 0xb6 ∷ 0xa0 ∷ 0x81 ∷ 0
 abbrev imageCorners : List ℕ
 imageCorners = 0 ∷ 0xd0 ∷ 0xca ∷ 0xb4 ∷ 0x8e ∷ 0xcd ∷ 0xff ∷ 0xba ∷ 0xd1 ∷ 0x86 ∷ 0xd8 ∷ 0x96 ∷ 0xa0 ∷ 0x81 ∷ 0xc1 ∷ 0xaf ∷ []
 
+-- the images with positions moved by 1125 feet on X and -1125 on Y; the third has lost the digits
+abbrev relayedAB : List ℕ
+relayedAB = 0 ∷ 0xc5 ∷ 0x9c ∷ 0x86 ∷ 0xde ∷ 0xcd ∷ 0xdf ∷ 0xba ∷ 0xd5 ∷ 0x84 ∷ 0xb9 ∷ 0xbe ∷ 0xa0 ∷ 0x9e ∷ 0xc1 ∷ 0xff ∷ []
+
+abbrev relayedAmplifyingA : List ℕ
+relayedAmplifyingA = 0 ∷ 0xc7 ∷ 0x9c ∷ 0x86 ∷ 0xde ∷ 0xcd ∷ 0xdf ∷ 0xba ∷ 0xa4 ∷ 0xb4 ∷ 0xdc ∷ 0xe9 ∷ 0xe6 ∷ 0xfb ∷ 0xa6 ∷ 0xcb ∷ []
+
+abbrev relayedIffB : List ℕ
+relayedIffB = 0 ∷ 0xd7 ∷ 0x84 ∷ 0xb9 ∷ 0xbe ∷ 0xa0 ∷ 0x9e ∷ 0xc1 ∷ 0xe4 ∷ 0x80 ∷ 0x80 ∷ 0xc9 ∷ 0x95 ∷ 0x80 ∷ 0x80 ∷ 0xed ∷ []
+
+abbrev relayedCorners : List ℕ
+relayedCorners = 0 ∷ 0xd0 ∷ 0xca ∷ 0xb4 ∷ 0x9e ∷ 0xcd ∷ 0xdf ∷ 0xba ∷ 0xd1 ∷ 0x86 ∷ 0xd8 ∷ 0x9e ∷ 0xa0 ∷ 0x9e ∷ 0xc1 ∷ 0x89 ∷ []
+
+-- an S.4 and an S.8 with every X and Y at 4095; an S.4 at 0 with the same S.8
+abbrev imageEdges : List ℕ
+imageEdges = 0 ∷ 0xc4 ∷ 0x80 ∷ 0x80 ∷ 0x9f ∷ 0xff ∷ 0xbf ∷ 0xfe ∷ 0xd4 ∷ 0x80 ∷ 0x80 ∷ 0x9f ∷ 0xff ∷ 0xbf ∷ 0xfe ∷ 0xef ∷ []
+
+abbrev imageEdge : List ℕ
+imageEdge = 0 ∷ 0xc4 ∷ 0x80 ∷ 0x80 ∷ 0x80 ∷ 0x80 ∷ 0x80 ∷ 0x80 ∷ 0xd4 ∷ 0x80 ∷ 0x80 ∷ 0x9f ∷ 0xff ∷ 0xbf ∷ 0xfe ∷ 0xcf ∷ []
+
 -- an image of two messages' octets and a check group; a message that is but a label; an S.5 of strength 1; an S.6 of elevation 13;
 -- an S.9 with spare bit 20 or 9; an S.3 with spare bit 8 and request 1, and one with request 1 and spare bits 29 and 30; a Blank with bits 30 and 49
 abbrev image : List ℕ → List ℕ → ℕ → List ℕ
@@ -290,6 +310,10 @@ levelsT1 = levels "1111111100101100110100110010110011010011001011001101001100101
 -- T behind three ones, and ones behind it
 abbrev shiftedT : List ℕ
 shiftedT = 0xe0 ∷ 0x17 ∷ replicate 13 0x57 ++ 0x5f ∷ 0xff ∷ []
+
+-- one offset too many
+abbrev nine : List ℤ
+nine = replicate 9 (pos 0)
 
 -- X one step beyond the range
 abbrev far : Message
@@ -468,39 +492,47 @@ pub texts-hold : answers texts ≡ expected texts
 unfolding answer every trackRefusal trackedOf textRefusal textAfter
 texts-hold = refl
 
--- shifting: each kind with a position, and one without (11)
-abbrev pub shifting : List Row
-shifting =
-    (shift-by (m.S4Plus trackA) (pos 375 ∷ []) (negsuc 1124 ∷ []) ⇒ told 0 0 (message (m.S4Plus (track 12345 1 (negsuc 1233) (pos 3006)))))
-    ∷ (shift-by (m.S8 trackB) [] (pos 750 ∷ []) ⇒ told 0 0 (message (m.S8 (track 20001 2 (pos 77) (negsuc 3998)))))
-    ∷ (shift-by (m.S8Plus trackB) (negsuc 749 ∷ []) [] ⇒ told 0 0 (message (m.S8Plus (track 20001 2 (pos 76) (negsuc 3999)))))
-    ∷ (shift-by (m.S9 (cornerA (pos 1) (negsuc 0))) (pos 375 ∷ []) (negsuc 374 ∷ []) ⇒ told 0 0 (message (m.S9 (cornerA (pos 2) (negsuc 1)))))
-    ∷ (shift-by (m.S9 (cornerA (pos 4095) (pos 0))) (pos 375 ∷ []) [] ⇒ told 9 1 (message (m.S9 (cornerA (pos 4095) (pos 0)))))
-    ∷ (shift-by (m.S9 (cornerA (pos 0) (negsuc 4095))) [] (negsuc 374 ∷ []) ⇒ told 9 2 (message (m.S9 (cornerA (pos 0) (negsuc 4095)))))
-    ∷ (shift-by (m.S6 (strobeA 11)) (replicate 9 (pos 0)) [] ⇒ told 11 0 (message (m.S6 (strobeA 11))))
+-- relaying (02, item 6): S.4 with S.8, S.4+ with S.5, S.8+ with S.3 and two corners, each position moved by 1125 and -1125 feet; the digits of absent modes are
+-- gone, also where nothing moves; pairs without a position pass through, whatever the sums
+abbrev pub relaying : List Row
+relaying =
+    (relay-by imageAB (pos 1125 ∷ []) (negsuc 1124 ∷ []) (fives 16) ⇒ told 0 0 (buffer relayedAB))
+    ∷ (relay-by imageAmplifyingA (pos 1125 ∷ []) (negsuc 1124 ∷ []) (fives 16) ⇒ told 0 0 (buffer relayedAmplifyingA))
+    ∷ (relay-by imageDigitsB (pos 1125 ∷ []) (negsuc 1124 ∷ []) (fives 16) ⇒ told 0 0 (buffer relayedIffB))
+    ∷ (relay-by imageCorners (pos 1125 ∷ []) (negsuc 1124 ∷ []) (fives 16) ⇒ told 0 0 (buffer relayedCorners))
+    ∷ (relay-by imageDigitsB [] [] (fives 16) ⇒ told 0 0 (buffer imageIffB))
+    ∷ (relay-by imageStrobes (replicate 8 (pos 6144000)) (replicate 8 (negsuc 6143999)) (fives 16) ⇒ told 0 0 (buffer imageStrobes))
+    ∷ (relay-by imageT (replicate 8 (pos 6144000)) [] (fives 16) ⇒ told 0 0 (buffer imageT))
     ∷ []
 
-pub shifting-hold : answers shifting ≡ expected shifting
-unfolding answer messageTrouble shiftedOf shiftRefusal areOffsets within sumZ near
-shifting-hold = refl
+pub relaying-hold : answers relaying ≡ expected relaying
+unfolding answer every numOf sumOf tab octetsOf agreeing imageOf pairOf openRefusal relayRefusal relayImage messageWord areOffsets within sumZ near
+relaying-hold = refl
 
--- shifting: 15, 2 X, 2 Y, 9 on X offsets, 9 on Y offsets, 9 on X result, 9 on Y result, each told before the next; offsets reach from -6,144,000
-abbrev pub shift-orders : List Row
-shift-orders =
-    (shift-by far (replicate 9 (pos 0)) [] ⇒ toldBit 15 1 24 (message far))
-    ∷ (shift-by (at (pos 0)) (replicate 9 (pos 0)) (replicate 9 (pos 0)) ⇒ told 2 1 (message (at (pos 0))))
-    ∷ (shift-by (at (pos 0)) (pos 6144001 ∷ []) (replicate 9 (pos 0)) ⇒ told 2 2 (message (at (pos 0))))
-    ∷ (shift-by (at (pos 0)) (pos 6144001 ∷ []) (pos 6144001 ∷ []) ⇒ told 9 1 (message (at (pos 0))))
-    ∷ (shift-by (at (pos 0)) (pos 6144000 ∷ []) (pos 6144001 ∷ []) ⇒ told 9 2 (message (at (pos 0))))
-    ∷ (shift-by (at (pos 0)) (pos 6144000 ∷ []) (pos 6144000 ∷ []) ⇒ told 9 1 (message (at (pos 0))))
-    ∷ (shift-by (at (pos 0)) [] (pos 6144000 ∷ []) ⇒ told 9 2 (message (at (pos 0))))
-    ∷ (shift-by (at (pos 0)) (negsuc 6143999 ∷ pos 6144000 ∷ []) [] ⇒ told 0 0 (message (at (pos 0))))
-    ∷ (shift-by (at (pos 0)) (negsuc 6144000 ∷ pos 6144000 ∷ []) [] ⇒ told 9 1 (message (at (pos 0))))
+-- relaying: opening's refusals, 2 on the buffer, 2 X, 2 Y, 9 on X offsets, 9 on Y offsets, 9 on the first message's X and Y, 9 on the second's, each told before the
+-- next, and the buffer left; the lists also where nothing has a position; offsets reach from -6,144,000
+abbrev pub relay-orders : List Row
+relay-orders =
+    (relay-by (1 ∷ drop 1 imageT) nine nine (fives 15) ⇒ told 3 0 (buffer (fives 15)))
+    ∷ (relay-by imageN nine nine (fives 15) ⇒ told 7 0 (buffer (fives 15)))
+    ∷ (relay-by (image (label 0xd0) spare9 0xdf) nine nine (fives 15) ⇒ toldBit 13 2 9 (buffer (fives 15)))
+    ∷ (relay-by imageT nine nine (fives 15) ⇒ told 2 0 (buffer (fives 15)))
+    ∷ (relay-by imageT nine nine (fives 16) ⇒ told 2 1 (buffer (fives 16)))
+    ∷ (relay-by imageT (pos 6144001 ∷ []) nine (fives 16) ⇒ told 2 2 (buffer (fives 16)))
+    ∷ (relay-by imageT (pos 6144001 ∷ []) (pos 6144001 ∷ []) (fives 16) ⇒ told 9 1 (buffer (fives 16)))
+    ∷ (relay-by imageEdges (pos 375 ∷ []) (pos 6144001 ∷ []) (fives 16) ⇒ told 9 2 (buffer (fives 16)))
+    ∷ (relay-by imageEdges (pos 375 ∷ []) (pos 375 ∷ []) (fives 16) ⇒ told 9 1 (buffer (fives 16)))
+    ∷ (relay-by imageEdges [] (pos 375 ∷ []) (fives 16) ⇒ told 9 2 (buffer (fives 16)))
+    ∷ (relay-by imageEdge (pos 375 ∷ []) (pos 375 ∷ []) (fives 16) ⇒ told 9 3 (buffer (fives 16)))
+    ∷ (relay-by imageEdge [] (pos 375 ∷ []) (fives 16) ⇒ told 9 4 (buffer (fives 16)))
+    ∷ (relay-by imageEdges (pos 374 ∷ []) (pos 374 ∷ []) (fives 16) ⇒ told 0 0 (buffer imageEdges))
+    ∷ (relay-by imageEdges (negsuc 6143999 ∷ pos 6144000 ∷ []) [] (fives 16) ⇒ told 0 0 (buffer imageEdges))
+    ∷ (relay-by imageEdges (negsuc 6144000 ∷ pos 6144000 ∷ []) [] (fives 16) ⇒ told 9 1 (buffer (fives 16)))
     ∷ []
 
-pub shift-orders-hold : answers shift-orders ≡ expected shift-orders
-unfolding answer messageTrouble shiftedOf shiftRefusal areOffsets within sumZ near
-shift-orders-hold = refl
+pub relay-orders-hold : answers relay-orders ≡ expected relay-orders
+unfolding answer every numOf sumOf tab octetsOf agreeing imageOf pairOf openRefusal relayRefusal relayImage messageWord areOffsets within sumZ near
+relay-orders-hold = refl
 
 -- ---- codes that are not used (01, 'Messages'): the number that closing answers for each value
 

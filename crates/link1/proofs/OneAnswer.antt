@@ -29,7 +29,7 @@ use Rattle.pair.proofs.Opened.refusal.Reads as opened-refusal
 use Rattle.pair.proofs.close.Reads as close
 use Rattle.units.proofs.altitude.Reads as altitude
 use Rattle.units.proofs.Height.refusal.Reads as height-refusal
-use Rattle.shift.proofs.shift.Reads as shift
+use Rattle.relay.proofs.relay.Reads as relay
 
 -- a contract of one answer, and one that also leaves one content of a lent buffer
 abbrev pub One : {R E : Type 0} → (R → E → Type 0) → Type 0
@@ -111,7 +111,7 @@ opened-refusal-one κs a r s e f p q = same p q
 pub close-one : (κs : Lfts 1) (a : _) → OneLeaving (close.Post κs a) (λ e. now (e .1 .1 .0))
 close-one κs a r s e f p q = (same (p .0) (q .0), same (p .1) (q .1))
 
--- ---- altitudes and the shift
+-- ---- altitudes and the relay
 
 pub altitude-one : (κs : Lfts 0) (a : _) → One (altitude.Post κs a)
 altitude-one κs a r s e f p q = same p q
@@ -119,5 +119,5 @@ altitude-one κs a r s e f p q = same p q
 pub height-refusal-one : (κs : Lfts 0) (a : _) → One (height-refusal.Post κs a)
 height-refusal-one κs a r s e f p q = same p q
 
-pub shift-one : (κs : Lfts 2) (a : _) → One (shift.Post κs a)
-shift-one κs a r s e f p q = same p q
+pub relay-one : (κs : Lfts 4) (a : _) → OneLeaving (relay.Post κs a) (λ e. now (e .1 .1 .1 .0))
+relay-one κs a r s e f p q = (same (p .0) (q .0), same (p .1) (q .1))

@@ -9,7 +9,6 @@ pub use refusal::BAD_PAIR;
 pub use refusal::BAD_PATTERN;
 pub use refusal::BAD_START;
 pub use refusal::NO_FRAME;
-pub use refusal::NO_POSITION;
 pub use refusal::OUT_OF_RANGE;
 pub use refusal::Refusal;
 pub use refusal::SPARE_BIT;
@@ -49,9 +48,8 @@ pub use track::Tracked;
 pub use track::track_number;
 pub use track::track_text;
 
-// Feet and steps, the altitude and the shift.
-pub use shift::Shifted;
-pub use shift::shift;
+// Feet and steps, the altitude and the relay.
+pub use relay::relay;
 pub use units::AltSteps;
 pub use units::Feet;
 pub use units::Height;

@@ -8,7 +8,7 @@ use lib.ListN.{length}
 use Rattle.bits.specs.declared.Trouble.{Trouble}
 use Rattle.bits.specs.declared.Trouble.the-variants.{Nothing}
 use Rattle.refusal.specs.Refusals.{numbered, success, badLength, unknownLabel, badPair}
-use Rattle.refusal.specs.Checks.{Check, check, checkAt, inside, firstRefusal, onSuccess, answered}
+use Rattle.refusal.specs.Checks.{Check, check, checkAt, inside, firstRefusal, answered}
 use Rattle.refusal.specs.declared.Refusal.{Refusal}
 use Rattle.frame.specs.Frame.{imageChecks, verdictOf}
 use Rattle.frame.specs.Words.{imageOf}
@@ -26,7 +26,7 @@ use Rattle.pair.specs.Opening.{firstWord, secondWord, wordMessage, openR
 use Rattle.pair.specs.Closing.{closeRefusal, closeImage}
 use Rattle.pair.specs.declared.Opened.{Opened}
 use Rattle.pair.specs.declared.Opened.the-variants.{Pair, Refused}
-use Rattle.refusal.proofs.CheckLaws.{first-more, given, left, answer-refused, Refuses}
+use Rattle.refusal.proofs.CheckLaws.{more-refused, more-passed, given, stays, answer-refused, Refuses}
 use Rattle.message.proofs.CodecLaws.{content-good, content-refused, word-refused}
 
 -- ---- opening: the frame's checks come first, then those of its words
@@ -36,22 +36,16 @@ module _ (image : List ℕ) where
   unfolding openRefusal
   in-two = refl
 
-  refusal-by : openRefusal image ≡ onSuccess (verdictOf image) (firstRefusal (wordChecks (firstWord image) (secondWord image))) (verdictOf image)
-  unfolding verdictOf
-  refusal-by = in-two ∙ first-more (imageChecks image) (wordChecks (firstWord image) (secondWord image)) refl
-
   pub open-refused : (r : Refusal) → r ≡ verdictOf image → (r .number ≡ success → ⊥) → Refused r ≡ openOf image
-  unfolding openOf
+  unfolding openOf verdictOf
   open-refused r e h =
-      let same : openRefusal image ≡ r =
-      refusal-by ∙ ap (λ (x : Refusal). onSuccess x (firstRefusal (wordChecks (firstWord image) (secondWord image))) x) (sym e) ∙ left r _ r h in
-      sym (answer-refused Refused _ same h)
+      sym (answer-refused Refused _ (in-two ∙ more-refused (imageChecks image) (wordChecks (firstWord image) (secondWord image)) refl (sym e) h) h)
 
   pub open-good : verdictOf image .number ≡ success → openWords (firstWord image) (secondWord image) ≡ openOf image
-  unfolding openOf openWords
+  unfolding openOf openWords verdictOf
   open-good z =
       ap (λ (r : Refusal). answered Refused r (Pair (wordMessage (firstWord image)) (wordMessage (secondWord image))))
-      (sym (refusal-by ∙ given (verdictOf image) _ _ z))
+      (sym (in-two ∙ more-passed (imageChecks image) (wordChecks (firstWord image) (secondWord image)) refl z))
 
 -- ---- the words, by what their labels name
 
@@ -125,7 +119,7 @@ module _ (first second : Message) (buffer : List ℕ) where
   -- on a refusal the buffer stays
   pub buffer-stays : (r : Refusal) → closeRefusal first second buffer ≡ r → Refuses r → buffer ≡ closeImage first second buffer
   unfolding closeImage
-  buffer-stays r e h = sym (left (closeRefusal first second buffer) _ buffer (λ q. h (sym (ap (λ (x : Refusal). x .number) e) ∙ q)))
+  buffer-stays r e h = sym (stays (closeRefusal first second buffer) _ buffer e h)
 
   pub buffer-written : closeRefusal first second buffer ≡ numbered success
       → imageOf (messageWord first) (messageWord second) ≡ closeImage first second buffer

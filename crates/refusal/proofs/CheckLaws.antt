@@ -15,15 +15,17 @@ use Rattle.bits.specs.declared.Trouble.the-variants.{Nothing, Wrong}
 use Rattle.bits.specs.Trouble.{isNothing}
 use Rattle.bits.proofs.TestLaws.{both-true, between, in-between, clash}
 use Rattle.bits.proofs.LayoutLaws.{nothing-is}
-use Rattle.refusal.specs.Refusals.{success, noPosition, badPattern, spareBit, unusedCode, tooWide, numbered, causeNumber, insideAt, troubled}
+use Rattle.refusal.specs.Refusals.{success, outOfRange, noFrame, badPattern, spareBit, unusedCode, tooWide, numbered, causeNumber, insideAt, troubled}
 use Rattle.refusal.specs.Checks.{Check, test, inside, isPassed, toldBy, firstRefusal, onSuccess, answered}
 use Rattle.refusal.specs.declared.Refusal.{Refusal}
 
--- ---- a refusal of the table (01, 'Numbers a caller may get back'; 02, item 4)
+-- ---- a refusal of the table (01, 'Numbers a caller may get back'; 02, items 4 and 6)
 
--- a number of 1 to 11 that is not 8, place 0, 1 or 2, and bit 0
+-- a number of 1 to 10 that is not 8, place 0, 1 or 2, of 9 also 3 or 4, and bit 0
 abbrev isPlain : Refusal → Bool
-isPlain r = both (isBetween 1 noPosition (r .number)) (both (not (eqb (r .number) 8)) (both (leb (r .place) 2) (eqb (r .bit) 0)))
+isPlain r =
+    both (isBetween 1 noFrame (r .number))
+    (both (not (eqb (r .number) 8)) (both (leb (r .place) (pick (eqb (r .number) outOfRange) 4 2)) (eqb (r .bit) 0)))
 
 -- a number of 12 to 15, message 1 or 2, and a bit of 7 to 49
 abbrev isInside : Refusal → Bool
@@ -31,7 +33,7 @@ isInside r = both (isBetween badPattern tooWide (r .number)) (both (isBetween 1 
 
 -- success with place 0 and bit 0, or one of these
 abbrev pub ofTable : Refusal → Bool
-ofTable r = pick (eqb (r .number) success) (both (eqb (r .place) 0) (eqb (r .bit) 0)) (pick (leb (r .number) noPosition) (isPlain r) (isInside r))
+ofTable r = pick (eqb (r .number) success) (both (eqb (r .place) 0) (eqb (r .bit) 0)) (pick (leb (r .number) noFrame) (isPlain r) (isInside r))
 
 -- every check of a list, if it is not passed, refuses with a number of the table
 abbrev refuses : Check → Bool
@@ -52,8 +54,8 @@ AllInMessage [] = Unit {0}
 AllInMessage (test passed r ∷ cs) = AllInMessage cs
 AllInMessage (inside place t ∷ cs) = InMessage t × AllInMessage cs
 
-plain-number : (r : Refusal) → isPlain r ≡ true → (1 ≤ r .number) × (r .number ≤ noPosition)
-plain-number r e = in-between 1 noPosition (r .number) (both-true e .0)
+plain-number : (r : Refusal) → isPlain r ≡ true → (1 ≤ r .number) × (r .number ≤ noFrame)
+plain-number r e = in-between 1 noFrame (r .number) (both-true e .0)
 
 cause-from : (c : Cause) → isBetween badPattern tooWide (causeNumber c) ≡ true
 cause-from Pattern = refl
@@ -81,14 +83,14 @@ plain-of-table : (r : Refusal) → isPlain r ≡ true → ofTable r ≡ true
 plain-of-table r e =
     let n = plain-number r e in
     let h : r .number ≡ success → ⊥ = λ z. omega (arith, n .0) in
-    ap (λ (t : Bool). pick t (both (eqb (r .place) 0) (eqb (r .bit) 0)) (pick (leb (r .number) noPosition) (isPlain r) (isInside r))) (ne-eqb _ _ h)
+    ap (λ (t : Bool). pick t (both (eqb (r .place) 0) (eqb (r .bit) 0)) (pick (leb (r .number) noFrame) (isPlain r) (isInside r))) (ne-eqb _ _ h)
     ∙ ap (λ (t : Bool). pick t (isPlain r) (isInside r)) (le-leb _ _ (n .1)) ∙ e
 
 inside-of-table : (place : ℕ) (c : Cause) (b : ℕ) → isBetween 1 2 place ≡ true → InMessage (Wrong c b) → ofTable (insideAt place c b) ≡ true
 inside-of-table place c b e (low, high) =
     let g = cause-number c in
     let h : causeNumber c ≡ success → ⊥ = λ z. omega (arith, g) in
-    rw (ne-eqb _ _ h, lt-leb (causeNumber c) noPosition (omega (arith, g)), cause-from c, e, between 7 49 b low high)
+    rw (ne-eqb _ _ h, lt-leb (causeNumber c) noFrame (omega (arith, g)), cause-from c, e, between 7 49 b low high)
 
 told-of-table : (c : Check) → refuses c ≡ true → AllInMessage (c ∷ []) → isPassed c ≡ false → ofTable (toldBy c) ≡ true
 told-of-table (test passed r) e m f = plain-of-table r e
@@ -196,10 +198,14 @@ module _ {A : Type 0} (r : Refusal) (new old : A) where
   pub left : Refuses r → onSuccess r new old ≡ old
   left h = ap (λ (t : Bool). pick t new old) (ne-eqb _ _ h)
 
+  -- the same of a refusal that another is equal to
+  pub stays : {s : Refusal} → r ≡ s → Refuses s → onSuccess r new old ≡ old
+  stays e h = left (λ z. h (sym (ap (λ (x : Refusal). x .number) e) ∙ z))
+
 -- an answer that is an enum, by its refusal
 module _ {A : Type 0} (refused : Refusal → A) (value : A) where
   pub answer-refused : {s r : Refusal} → s ≡ r → Refuses r → answered refused s value ≡ refused r
-  answer-refused {s} {r} e h = left s value (refused s) (λ q. h (sym (ap (λ (x : Refusal). x .number) e) ∙ q)) ∙ ap refused e
+  answer-refused {s} {r} e h = stays s value (refused s) e h ∙ ap refused e
 
   -- an answer that is no refusal is the value, and nothing was refused
   pub answer-is : (s : Refusal) (v : A) → ((r : Refusal) → refused r ≡ v → ⊥) → answered refused s value ≡ v → (s .number ≡ success) × (value ≡ v)
@@ -209,6 +215,14 @@ module _ {A : Type 0} (refused : Refusal → A) (value : A) where
       go true f q = (eqb-true _ _ f, q)
       go false f q = absurd (h s q)
 
+  -- an answer that is a refusal is that of the checks
+  pub answer-not : (s r : Refusal) → (value ≡ refused r → ⊥) → ((x : Refusal) → refused x ≡ refused r → x ≡ r) → answered refused s value ≡ refused r → (s ≡ r) × Refuses r
+  answer-not s r h same e = go (eqb (s .number) success) refl e
+    where
+      go : (t : Bool) → eqb (s .number) success ≡ t → pick t value (refused s) ≡ refused r → (s ≡ r) × Refuses r
+      go true f q = absurd (h q)
+      go false f q = let is = same s q in (is, λ z. clash (eq-eqb _ _ (ap (λ (x : Refusal). x .number) is ∙ z)) f)
+
   -- the refusal of an answer is that of its checks
   pub answer-tells : (refusalOf : A → Refusal) (cs : List Check) → allRefuse cs ≡ true → ((r : Refusal) → refusalOf (refused r) ≡ r) → refusalOf value ≡ numbered success
       → refusalOf (answered refused (firstRefusal cs) value) ≡ firstRefusal cs
@@ -217,6 +231,27 @@ module _ {A : Type 0} (refused : Refusal → A) (value : A) where
       go : (t : Bool) → eqb (firstRefusal cs .number) success ≡ t → refusalOf (pick t value (refused (firstRefusal cs))) ≡ firstRefusal cs
       go true f = none ∙ sym (success-whole cs all (eqb-true _ _ f))
       go false f = whole (firstRefusal cs)
+
+-- a call whose checks come in two stages, where the first stage has an answer of its own: its refusal is passed up whole; where it refuses
+-- nothing the second stage decides
+module _ (cs ds : List Check) (all : allRefuse cs ≡ true) where
+  pub more-refused : {r : Refusal} → firstRefusal cs ≡ r → Refuses r → firstRefusal (cs ++ ds) ≡ r
+  more-refused e h = first-more cs ds all ∙ stays (firstRefusal cs) _ _ e h ∙ e
+
+  pub more-passed : firstRefusal cs .number ≡ success → firstRefusal (cs ++ ds) ≡ firstRefusal ds
+  more-passed z = first-more cs ds all ∙ given (firstRefusal cs) _ _ z
+
+  module _ {A B : Type 0} (refused : Refusal → A) (value : A) (refused′ : Refusal → B) (value′ : B) where
+    pub stage-refused : (r : Refusal) → (value ≡ refused r → ⊥) → ((x : Refusal) → refused x ≡ refused r → x ≡ r)
+        → answered refused (firstRefusal cs) value ≡ refused r → refused′ r ≡ answered refused′ (firstRefusal (cs ++ ds)) value′
+    stage-refused r h same e =
+        let p = answer-not refused value (firstRefusal cs) r h same e in sym (answer-refused refused′ value′ (more-refused (p .0) (p .1)) (p .1))
+
+    pub stage-passed : (v : A) → ((r : Refusal) → refused r ≡ v → ⊥) → answered refused (firstRefusal cs) value ≡ v
+        → (value ≡ v) × (answered refused′ (firstRefusal ds) value′ ≡ answered refused′ (firstRefusal (cs ++ ds)) value′)
+    stage-passed v h e =
+        let p = answer-is refused value (firstRefusal cs) v h e in
+        (p .1, sym (ap (λ (r : Refusal). answered refused′ r value′) (more-passed (p .0))))
 
 -- an answer about the inside of message `place`: it is the value and nothing is wrong, or the refusal, which is passed up whole
 module _ {A : Type 0} (refused : Refusal → A) (value : A) (place : ℕ) where
@@ -241,7 +276,7 @@ module _ (cs : List Check) (all : allRefuse cs ≡ true) (bits : AllInMessage cs
   pub buffer-left : {A : Type 0} (new old : A) {after : A} {r : Refusal} → r ≡ firstRefusal cs → after ≡ onSuccess (firstRefusal cs) new old
       → (ofTable r ≡ true) × (Refuses r → after ≡ old)
   buffer-left new old e f =
-      (ap ofTable e ∙ first-of-table cs all bits, λ h. f ∙ left (firstRefusal cs) new old (λ z. h (ap (λ (x : Refusal). x .number) e ∙ z)))
+      (ap ofTable e ∙ first-of-table cs all bits, λ h. f ∙ stays (firstRefusal cs) new old (sym e) h)
 
   -- of a call that answers an enum
   pub refusal-told : {A : Type 0} (refused : Refusal → A) (refusalOf : A → Refusal) (value : A) {r : A} → ((x : Refusal) → refusalOf (refused x) ≡ x)

@@ -16,7 +16,7 @@ pub data Check : Type 0 where
   -- what is first wrong inside message 1 or 2
   inside : ℕ → Trouble → Check
 
--- a test of the whole input, and one of message or axis 1 or 2
+-- a test of the whole input, and one of a message or an axis
 abbrev pub check : Bool → ℕ → Check
 check passed n = test passed (numbered n)
 

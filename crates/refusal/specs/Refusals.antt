@@ -1,4 +1,4 @@
--- 01, 'Numbers a caller may get back', and 02, item 4: a name for each number; a number with its place, and of what is wrong inside a message
+-- 01, 'Numbers a caller may get back', and 02, items 4 and 6: a name for each number; a number with its place, and of what is wrong inside a message
 -- with the bit where it begins.
 use Prim.Native.Nat.{ℕ}
 use Rattle.bits.specs.declared.Cause.{Cause}
@@ -33,15 +33,12 @@ unknownLabel = 6
 abbrev pub badPair : ℕ
 badPair = 7
 
--- a number or character out of range; no good frame; the message has no position
+-- a number or character out of range; no good frame
 abbrev pub outOfRange : ℕ
 outOfRange = 9
 
 abbrev pub noFrame : ℕ
 noFrame = 10
-
-abbrev pub noPosition : ℕ
-noPosition = 11
 
 -- inside a message: a fixed pattern; a spare bit; a code that is not used; a number too wide for its field
 abbrev pub badPattern : ℕ
@@ -56,7 +53,7 @@ unusedCode = 14
 abbrev pub tooWide : ℕ
 tooWide = 15
 
--- a number about the whole input, and one about message or axis 1 or 2
+-- a number about the whole input, and one about a message or an axis
 abbrev pub numbered : ℕ → Refusal
 numbered n = record { number = n; place = 0; bit = 0 }
 

@@ -1,4 +1,4 @@
-// The numbers a caller may get back, each by its name (01, 'Numbers a caller may get back'; 02, item 4).
+// The numbers a caller may get back, each by its name (01, 'Numbers a caller may get back'; 02, items 4 and 6).
 
 ghost use mathlib.Core.Path.{_≡_};
 ghost use Rattle.refusal.specs.Refusals.{numbered, numberedAt, numberedIn, causeNumber, insideAt};
@@ -24,8 +24,6 @@ pub const OUT_OF_RANGE: u8 = 9;
 
 pub const NO_FRAME: u8 = 10;
 
-pub const NO_POSITION: u8 = 11;
-
 // What is wrong inside a message.
 pub const BAD_PATTERN: u8 = 12;
 
@@ -35,8 +33,8 @@ pub const UNUSED_CODE: u8 = 14;
 
 pub const TOO_WIDE: u8 = 15;
 
-// The number; the message or axis that it is about, 1 or 2, else 0; and of what is wrong inside a message the bit where it begins, else 0. Success
-// is 0 with place and bit 0.
+// The number; the message or axis that it is about, 1 or 2, of a relay's second message 3 or 4 for its axes, else 0; and of what is wrong inside a
+// message the bit where it begins, else 0. Success is 0 with place and bit 0.
 pub struct Refusal {
     pub number: u8,
     pub place: u8,

@@ -204,6 +204,58 @@ fn send(line: &[u8], body: &[u8]) {
     send_into(body, numbers::u8_at(line, 1, 0), &mut levels[0..length]);
 }
 
+fn relay_into(image: &[u8], xs: &[i32], ys: &[i32], buffer: &mut [u8]) {
+    show::refusal(link1::relay(image, xs, ys, buffer));
+    show::octets(buffer);
+}
+
+// The part `and` behind `by`, which is part 2, and the part `of` behind that one; how many parts there are if there is none.
+fn and_part(line: &[u8]) -> usize {
+    parts::find(line, 3, b"and")
+}
+
+fn of_part(line: &[u8]) -> usize {
+    parts::find(line, std::num::wrapping_add_usize(and_part(line), 1), b"of")
+}
+
+// relay LENGTH by X .. and Y .. of IMAGE: a buffer of so many octets, each 5, is lent.
+fn relay(line: &[u8], image: &[u8]) {
+    let mut buffer = [5u8; 256];
+    let length = numbers::read(line, 1) as usize;
+    let and = and_part(line);
+    let of = of_part(line);
+    let y = std::num::wrapping_add_usize(and, 1);
+    let kx = std::num::wrapping_sub_usize(and, 3);
+    let ky = std::num::wrapping_sub_usize(of, y);
+    let xs = numbers::list_at(line, 3);
+    let ys = numbers::list_at(line, y);
+    if !numbers::is_up_to(line, 1, 256) {
+        return show::refuse();
+    }
+    if !parts::says(line, 2, b"by") {
+        return show::refuse();
+    }
+    if of == parts::count(line) {
+        return show::refuse();
+    }
+    if !numbers::are_i32(line, 3, and) {
+        return show::refuse();
+    }
+    if !numbers::are_i32(line, y, of) {
+        return show::refuse();
+    }
+    if 256 < length {
+        return show::refuse();
+    }
+    if 16 < kx {
+        return show::refuse();
+    }
+    if 16 < ky {
+        return show::refuse();
+    }
+    relay_into(image, &xs[0..kx], &ys[0..ky], &mut buffer[0..length]);
+}
+
 // The octets from index i on as a number, behind another.
 fn push(w: u64, body: &[u8], i: usize) -> u64 {
     (w << 8) | (parts::octet(body, i) as u64)
@@ -342,7 +394,6 @@ fn tell_numbers(line: &[u8]) {
     show::number(link1::BAD_PAIR as u64);
     show::number(link1::OUT_OF_RANGE as u64);
     show::number(link1::NO_FRAME as u64);
-    show::number(link1::NO_POSITION as u64);
     show::number(link1::BAD_PATTERN as u64);
     show::number(link1::SPARE_BIT as u64);
     show::number(link1::UNUSED_CODE as u64);
@@ -395,50 +446,10 @@ fn label(line: &[u8]) {
     show::first_number(link1::label(k) as u64);
 }
 
-// X offsets from part x on, up to `and`; Y offsets behind it, up to the end. Without an `and` there would be more of them than are taken.
-fn shift_by(m: Message, line: &[u8], x: usize, and: usize, end: usize) {
-    let y = std::num::wrapping_add_usize(and, 1);
-    let kx = std::num::wrapping_sub_usize(and, x);
-    let ky = std::num::wrapping_sub_usize(end, y);
-    let xs = numbers::list_at(line, x);
-    let ys = numbers::list_at(line, y);
-    if 16 < kx {
-        return show::refuse();
-    }
-    if 16 < ky {
-        return show::refuse();
-    }
-    if !numbers::are_i32(line, x, and) {
-        return show::refuse();
-    }
-    if !numbers::are_i32(line, y, end) {
-        return show::refuse();
-    }
-    let shifted = link1::shift(m, &xs[0..kx], &ys[0..ky]);
-    let after = shifted.message;
-    show::refusal(shifted.refusal);
-    show::text(b" ");
-    messages::tell(after);
-}
-
-// shift MESSAGE by X .. and Y ..
-fn shift(line: &[u8]) {
-    let said = messages::take(line, 1);
-    let m = said.message;
-    let x = std::num::wrapping_add_usize(said.next, 1);
-    if said.next == 0 {
-        return show::refuse();
-    }
-    if !parts::says(line, said.next, b"by") {
-        return show::refuse();
-    }
-    shift_by(m, line, x, parts::find(line, x, b"and"), parts::count(line));
-}
-
 // ---- which call a line says: the words of the calls, and the place of each
 
 const CALLS: [u8; 177] =
-    *b"verdict open hear track_number search track_text send resume close shift kind_of label kind_named altitude refusal_of refusal_at refusal_inside numbers hear_octets resume_octets";
+    *b"verdict open hear track_number search track_text send resume close relay kind_of label kind_named altitude refusal_of refusal_at refusal_inside numbers hear_octets resume_octets";
 
 const VERDICT: usize = 0;
 
@@ -458,7 +469,7 @@ const RESUME: usize = 7;
 
 const CLOSE: usize = 8;
 
-const SHIFT: usize = 9;
+const RELAY: usize = 9;
 
 const KIND_OF: usize = 10;
 
@@ -481,8 +492,9 @@ const HEAR_OCTETS: usize = 18;
 const RESUME_OCTETS: usize = 19;
 
 // The part at which a call's octets begin.
-fn octets_from(said: usize) -> usize {
+fn octets_from(said: usize, line: &[u8]) -> usize {
     match said {
+        RELAY => std::num::wrapping_add_usize(of_part(line), 1),
         SEARCH => 2,
         TRACK_TEXT => 2,
         SEND => 3,
@@ -501,6 +513,7 @@ fn call_on(said: usize, line: &[u8], body: &mut [u8]) {
         TRACK_TEXT => track_text(line, body),
         SEND => send(line, body),
         RESUME => resume(line, body),
+        RELAY => relay(line, body),
         HEAR_OCTETS => feed_octets(OctetReceiver::fresh(), body),
         RESUME_OCTETS => resume_octets(body),
         _ => show::refuse(),
@@ -508,7 +521,7 @@ fn call_on(said: usize, line: &[u8], body: &mut [u8]) {
 }
 
 fn call_octets(said: usize, line: &[u8], space: &mut [u8]) {
-    let k = parts::octets::gather(line, octets_from(said), space);
+    let k = parts::octets::gather(line, octets_from(said, line), space);
     if space.len() < k {
         return show::refuse();
     }
@@ -520,7 +533,6 @@ pub fn call(line: &[u8], space: &mut [u8]) {
     let said = parts::which(&CALLS, line, 0);
     match said {
         CLOSE => close(line, space),
-        SHIFT => shift(line),
         KIND_OF => kind_of(line),
         LABEL => label(line),
         KIND_NAMED => kind_named(line),

@@ -1,102 +1,86 @@
--- What the shift's steps answer. Assumes nothing.
+-- What the shift's steps answer: the lists, then the first message, then the second. Assumes nothing.
 use mathlib.Core.Path.{_≡_, refl, sym, ap, ap₂, _∙_}
-use mathlib.Core.Bool.{Bool, true, false}
-use mathlib.Core.List.{List, _∷_, _++_}
-use borrow.Author.Tests.{eqb-true, eq-eqb}
-use lib.Dec.{eqb}
+use mathlib.Core.List.{List, [], _∷_}
+use Prim.Native.Nat.{ℕ}
 use lib.IntN.{ℤ}
-use Rattle.bits.specs.Tests.{pick}
-use Rattle.bits.specs.declared.Trouble.{Trouble}
-use Rattle.bits.specs.declared.Trouble.the-variants.{Nothing}
-use Rattle.refusal.specs.Refusals.{success, noPosition, numbered}
-use Rattle.refusal.specs.Checks.{check, inside, firstRefusal, onSuccess, answered}
+use Rattle.refusal.specs.Refusals.{outOfRange}
+use Rattle.refusal.specs.Checks.{checkAt, firstRefusal, answered}
 use Rattle.refusal.specs.declared.Refusal.{Refusal}
 use Rattle.units.specs.Offsets.{sumZ}
-use Rattle.units.specs.Steps.{nearestTo, movedTo}
 use Rattle.units.specs.declared.Feet.{Feet}
 use Rattle.units.specs.declared.LinkSteps.{LinkSteps}
-use Rattle.message.specs.Codec.{messageTrouble, encodedOf}
 use Rattle.message.specs.declared.Message.{Message}
-use Rattle.message.specs.declared.Encoded.the-variants as E
-use Rattle.shift.specs.Positions.{positionOf, isSomewhere, xOf, yOf, placedAt}
-use Rattle.shift.specs.Shift.{shiftRefusal, shiftedOf, listChecks, sumsOf, stepChecks, newPosition, movedPosition, leftAs, finishedOf}
+use Rattle.shift.specs.Positions.{positionOf}
+use Rattle.shift.specs.Shift.{shiftedFrom, shifted, shiftedBy, xLands, yLands, listChecks, resultChecks, bothChecks, pairShifted, sumsOf, bothShifted, shiftedOf, movedOf}
 use Rattle.shift.specs.declared.Position.{Position}
 use Rattle.shift.specs.declared.Position.the-variants.{At, Nowhere}
 use Rattle.shift.specs.declared.Shifted.{Shifted}
 use Rattle.shift.specs.declared.Sums.the-variants as U
-use Rattle.shift.specs.declared.NewPosition.the-variants as N
-use Rattle.bits.proofs.TestLaws.{zero-one, clash}
-use Rattle.refusal.proofs.CheckLaws.{first-more, given, left, answer-refused, answer-is, success-whole, Refuses}
-use Rattle.message.proofs.CodecLaws.{word-refused}
+use Rattle.shift.specs.declared.Shifted.the-variants as S
+use Rattle.shift.specs.declared.ShiftedPair.the-variants as P
+use Rattle.bits.proofs.TestLaws.{zero-one}
+use Rattle.refusal.proofs.CheckLaws.{stage-refused, stage-passed}
 
--- ---- the lists, and then the steps
+-- ---- one message, by its position
 
-module _ (x y : ℤ) (xs ys : List ℤ) where
-  moved-by : firstRefusal (listChecks xs ys ++ stepChecks (movedTo x xs) (movedTo y ys))
-      ≡ onSuccess (firstRefusal (listChecks xs ys)) (firstRefusal (stepChecks (movedTo x xs) (movedTo y ys))) (firstRefusal (listChecks xs ys))
-  moved-by = first-more (listChecks xs ys) (stepChecks (movedTo x xs) (movedTo y ys)) refl
+module _ (m : Message) (dx dy : ℤ) (px py : ℕ) where
+  abbrev from : Position → Shifted
+  from p =
+      answered S.Refused (firstRefusal (checkAt (xLands p dx) outOfRange px ∷ checkAt (yLands p dy) outOfRange py ∷ []))
+      (S.To (shiftedFrom p m dx dy))
 
-  -- lists that are refused
-  pub lists-refused : (r : Refusal) → sumsOf xs ys ≡ U.Refused r → N.Refused r ≡ movedPosition x y xs ys
-  unfolding sumsOf movedPosition
-  lists-refused r e = go (eqb (firstRefusal (listChecks xs ys) .number) success) refl e
-    where
-      go : (t : Bool) → eqb (firstRefusal (listChecks xs ys) .number) success ≡ t
-          → pick t (U.Of (record { 0 = sumZ xs }) (record { 0 = sumZ ys })) (U.Refused (firstRefusal (listChecks xs ys))) ≡ U.Refused r → N.Refused r ≡ movedPosition x y xs ys
-      go true f q = zero-one (cc)
-      go false f q =
-          let is : firstRefusal (listChecks xs ys) ≡ r = cc in
-          let wrong : Refuses (firstRefusal (listChecks xs ys)) = λ z. clash (eq-eqb _ _ z) f in
-          sym (answer-refused N.Refused _ (moved-by ∙ left (firstRefusal (listChecks xs ys)) _ _ wrong ∙ is) (λ z. wrong (ap (λ (s : Refusal). s .number) is ∙ z)))
+  pub nowhere-passes : positionOf m ≡ Nowhere → S.To m ≡ shiftedOf m dx dy px py
+  unfolding shiftedOf
+  nowhere-passes e = sym (ap from e)
 
-  -- and lists that are added up
-  pub lists-added : (dx dy : Feet) → sumsOf xs ys ≡ U.Of dx dy → newPosition (nearestTo x (dx .0)) (nearestTo y (dy .0)) ≡ movedPosition x y xs ys
-  unfolding sumsOf movedPosition newPosition
+  pub moved-from : (x y : LinkSteps) → positionOf m ≡ At x y → movedOf m (x .0) (y .0) dx dy px py ≡ shiftedOf m dx dy px py
+  unfolding shiftedOf movedOf
+  moved-from x y e = sym (ap from e)
+
+-- ---- the first message, and then the second
+
+module _ (first second : Message) (dx dy : ℤ) where
+  pub first-refused : (r : Refusal) → shiftedOf first dx dy 1 2 ≡ S.Refused r → P.Refused r ≡ bothShifted first second dx dy
+  unfolding shiftedOf bothShifted
+  first-refused r e =
+      stage-refused (resultChecks first dx dy 1 2) (resultChecks second dx dy 3 4) refl S.Refused (S.To (shifted first dx dy)) P.Refused _ r (λ z. zero-one (cc)) (λ x z. cc) e
+
+  module _ (a : Message) (e : shiftedOf first dx dy 1 2 ≡ S.To a) where
+    first-moved : (shifted first dx dy ≡ a)
+        × (answered P.Refused (firstRefusal (resultChecks second dx dy 3 4)) (P.Of (shifted first dx dy) (shifted second dx dy)) ≡ bothShifted first second dx dy)
+    unfolding shiftedOf bothShifted
+    first-moved =
+        let p = stage-passed (resultChecks first dx dy 1 2) (resultChecks second dx dy 3 4) refl S.Refused (S.To (shifted first dx dy)) P.Refused (P.Of (shifted first dx dy) (shifted second dx dy)) (S.To a) (λ r z. zero-one (cc)) e in
+        let q = p .0 in (cc, p .1)
+
+    pub second-refused : (r : Refusal) → shiftedOf second dx dy 3 4 ≡ S.Refused r → P.Refused r ≡ bothShifted first second dx dy
+    unfolding shiftedOf
+    second-refused r f =
+        stage-refused (resultChecks second dx dy 3 4) [] refl S.Refused (S.To (shifted second dx dy)) P.Refused (P.Of (shifted first dx dy) (shifted second dx dy)) r (λ z. zero-one (cc)) (λ x z. cc) f
+        ∙ first-moved .1
+
+    pub both-moved : (b : Message) → shiftedOf second dx dy 3 4 ≡ S.To b → P.Of a b ≡ bothShifted first second dx dy
+    unfolding shiftedOf
+    both-moved b f =
+        let p = stage-passed (resultChecks second dx dy 3 4) [] refl S.Refused (S.To (shifted second dx dy)) P.Refused (P.Of (shifted first dx dy) (shifted second dx dy)) (S.To b) (λ r z. zero-one (cc)) f in
+        let q = p .0 in
+        let is : shifted second dx dy ≡ b = cc in
+        sym (ap₂ P.Of (first-moved .0) is) ∙ p .1 ∙ first-moved .1
+
+-- ---- the lists, and then both messages
+
+module _ (first second : Message) (xs ys : List ℤ) where
+  pub lists-refused : (r : Refusal) → sumsOf xs ys ≡ U.Refused r → P.Refused r ≡ pairShifted first second xs ys
+  unfolding sumsOf pairShifted
+  lists-refused r e =
+      stage-refused (listChecks xs ys) (bothChecks first second (sumZ xs) (sumZ ys)) refl U.Refused (U.Of (record { 0 = sumZ xs }) (record { 0 = sumZ ys })) P.Refused _ r (λ z. zero-one (cc)) (λ x z. cc) e
+
+  pub lists-added : (dx dy : Feet) → sumsOf xs ys ≡ U.Of dx dy → bothShifted first second (dx .0) (dy .0) ≡ pairShifted first second xs ys
+  unfolding sumsOf pairShifted bothShifted
   lists-added dx dy e =
-      let q = answer-is U.Refused (U.Of (record { 0 = sumZ xs }) (record { 0 = sumZ ys })) (firstRefusal (listChecks xs ys)) (U.Of dx dy) (λ r z. zero-one (cc)) e in
-      let v = q .1 in
+      let p = stage-passed (listChecks xs ys) (bothChecks first second (sumZ xs) (sumZ ys)) refl U.Refused (U.Of (record { 0 = sumZ xs }) (record { 0 = sumZ ys })) P.Refused
+      (P.Of (shiftedBy xs ys first) (shiftedBy xs ys second)) (U.Of dx dy) (λ r z. zero-one (cc)) e in
+      let q = p .0 in
       let a : sumZ xs ≡ dx .0 = cc in
       let b : sumZ ys ≡ dy .0 = cc in
-      let at : ℤ → ℤ → Refusal → _ = λ u v r. answered N.Refused r (N.At (record { 0 = u }) (record { 0 = v })) in
-      rw (← a, ← b) (sym (ap (at (movedTo x xs) (movedTo y ys)) (moved-by ∙ given (firstRefusal (listChecks xs ys)) _ _ (q .0))))
-
--- ---- a message by its position and what is wrong inside it
-
-abbrev byPosition : Position → Trouble → List ℤ → List ℤ → Refusal
-byPosition p t xs ys =
-    firstRefusal (check (isSomewhere p) noPosition ∷ inside 1 t ∷ (listChecks xs ys ++ stepChecks (movedTo (xOf p) xs) (movedTo (yOf p) ys)))
-
-abbrev shiftedBy : Position → Trouble → Message → List ℤ → List ℤ → Shifted
-shiftedBy p t m xs ys =
-    record { refusal = byPosition p t xs ys; message = onSuccess (byPosition p t xs ys) (placedAt m (movedTo (xOf p) xs) (movedTo (yOf p) ys)) m }
-
-module _ (m : Message) (xs ys : List ℤ) where
-  by : {p : Position} {t : Trouble} → positionOf m ≡ p → messageTrouble m ≡ t → shiftedOf m xs ys ≡ shiftedBy p t m xs ys
-  unfolding shiftedOf shiftRefusal
-  by e f = ap₂ (λ (p : Position) (t : Trouble). shiftedBy p t m xs ys) e f
-
-  pub shifted-nowhere : positionOf m ≡ Nowhere → shiftedOf m xs ys ≡ leftAs m (numbered noPosition)
-  shifted-nowhere e = by e refl
-
-  module _ (x y : LinkSteps) (e : positionOf m ≡ At x y) where
-    pub shifted-bad : (r : Refusal) → encodedOf 1 m ≡ E.Refused r → shiftedOf m xs ys ≡ leftAs m r
-    shifted-bad r f =
-        let p = word-refused 1 m r f in
-        let told : byPosition (At x y) (messageTrouble m) xs ys ≡ r = p .1 (listChecks xs ys ++ stepChecks (movedTo (x .0) xs) (movedTo (y .0) ys)) in
-        let new = placedAt m (movedTo (x .0) xs) (movedTo (y .0) ys) in
-        by e refl ∙ ap (λ (s : Refusal). record { refusal = s; message = onSuccess s new m }) told ∙ ap (λ (n : Message). record { refusal = r; message = n }) (left r new m (p .0))
-
-    abbrev steps : Refusal
-    steps = firstRefusal (listChecks xs ys ++ stepChecks (movedTo (x .0) xs) (movedTo (y .0) ys))
-
-    pub shifted-moved : messageTrouble m ≡ Nothing → shiftedOf m xs ys ≡ finishedOf m (movedPosition (x .0) (y .0) xs ys)
-    unfolding movedPosition
-    shifted-moved f = by e f ∙ go (eqb (steps .number) success) refl
-      where
-        go : (t : Bool) → eqb (steps .number) success ≡ t
-            → _≡_ {A = Shifted} (record { refusal = steps; message = pick t (placedAt m (movedTo (x .0) xs) (movedTo (y .0) ys)) m })
-            (finishedOf m (pick t (N.At (record { 0 = movedTo (x .0) xs }) (record { 0 = movedTo (y .0) ys })) (N.Refused steps)))
-        go false q = refl
-        go true q =
-            ap (λ (r : Refusal). leftAs (placedAt m (movedTo (x .0) xs) (movedTo (y .0) ys)) r)
-            (success-whole (listChecks xs ys ++ stepChecks (movedTo (x .0) xs) (movedTo (y .0) ys)) refl (eqb-true _ _ q))
+      sym (ap₂ (bothShifted first second) a b) ∙ p .1

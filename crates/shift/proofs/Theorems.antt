@@ -1,224 +1,316 @@
--- Laws of the shift, of what the public call answers: the steps are the nearest, the first trouble is told, the order of offsets does not matter, empty lists change
--- nothing, and a shift can be taken back. Assumes nothing.
-use mathlib.Core.Path.{_≡_, refl, sym, ap, ap₂, subst, _∙_}
+-- Laws of a message that is shifted, whichever of a pair it is: the new steps are the nearest and all else stays; it fits again; empty lists change nothing; a
+-- shift is taken back by one offset on each axis. Assumes nothing.
+use mathlib.Core.Path.{_≡_, refl, sym, ap, ap₂, _∙_}
 use mathlib.Core.Bool.{Bool, true, false}
-use mathlib.Core.List.{List, [], _∷_, List·Permᴰ}
-use mathlib.Core.Logic.{⊎-elim}
-use Prim.Native.Nat.{ℕ, zero, suc, _^_}
+use mathlib.Core.List.{List, [], _∷_}
+use Prim.Native.Nat.{ℕ, zero, suc, _≤_}
 use lib.ListN.{drop}
-use lib.IntN.{ℤ, pos, negℤ, _+ℤ_, _*ℤ_}
+use lib.IntN.{ℤ, pos, negℤ, natAbs, _+ℤ_, _*ℤ_}
 use lib.Dec.{ltb}
 use lib.Signed.{mag}
 use native.Mathlib.Omega.{arith}
-use borrow.Author.Tests.{ltb-true}
-use Rattle.bits.specs.Tests.{pick}
+use borrow.Author.Tests.{ltb-true, lt-ltb}
+use Rattle.bits.specs.Tests.{pick, both}
 use Rattle.bits.specs.Twos.{unsignedOf}
-use Rattle.bits.specs.Layout.{Field, signed, widthOf, Values, writeAs}
-use Rattle.bits.specs.Trouble.{isNothing, fits}
-use Rattle.bits.specs.Begins.{IsFirst}
-use Rattle.bits.specs.declared.Cause.{Cause}
-use Rattle.bits.specs.declared.Trouble.the-variants.{Nothing, Wrong}
-use Rattle.refusal.specs.Refusals.{numbered, success, insideAt}
-use Rattle.refusal.specs.declared.Refusal.{Refusal}
-use Rattle.units.specs.Offsets.{areOffsets, sumZ}
-use Rattle.units.specs.Steps.{isStep, movedTo}
+use Rattle.bits.specs.Layout.{Field, signed, Values, writeAs}
+use Rattle.bits.specs.Trouble.{isNothing, misfit, fits}
+use Rattle.bits.specs.declared.Trouble.the-variants.{Nothing}
+use Rattle.units.specs.Offsets.{sumZ}
+use Rattle.units.specs.Steps.{nearestTo, isStep, movedTo}
 use Rattle.units.specs.Nearest.{Nearest, OddMultiple}
+use Rattle.units.specs.declared.LinkSteps.{LinkSteps}
+use Rattle.kind.specs.Layouts.{trackLayout, cornerLayout}
 use Rattle.message.specs.Codec.{messageTrouble}
-use Rattle.kind.specs.Layouts.{layoutOf}
-use Rattle.message.specs.Messages.{kindOf, partsOf}
+use Rattle.message.specs.Messages.{kindOf, trackParts, cornerParts}
 use Rattle.message.specs.declared.Message.{Message}
 use Rattle.message.specs.declared.Message.the-variants as m
 use Rattle.shift.specs.Positions.{positionOf, isSomewhere, xOf, yOf, placedAt}
-use Rattle.shift.specs.Shift.{newX, newY, shiftChecks, shiftRefusal, shiftedOf}
-use Rattle.shift.specs.declared.Position.the-variants.{At}
-use Rattle.shift.specs.declared.Shifted.{Shifted}
+use Rattle.shift.specs.Shift.{shiftedFrom, shifted, shiftedBy, xLands, yLands}
+use Rattle.shift.specs.declared.Position.{Position}
+use Rattle.shift.specs.declared.Position.the-variants.{At, Nowhere}
 use Rattle.bits.proofs.TestLaws.{clash, both-true}
-use Rattle.bits.proofs.LayoutLaws.{allows, inField, fits-more, fits-anywhere}
-use Rattle.refusal.proofs.CheckLaws.{Passed, success-passed, passed-success, given, AllInMessage, first-told}
-use Rattle.message.proofs.FirstTrouble.{MisfitsAt, message-first, message-bit}
-use Rattle.units.proofs.Ranges.{mag-step}
+use Rattle.bits.proofs.TwosLaws.{unsigned-lt}
+use Rattle.bits.proofs.LayoutLaws.{inField, fits-more, fits-anywhere, nothing-is}
+use Rattle.units.proofs.Ranges.{mag-step, step-mag}
 use Rattle.units.proofs.Nearest.{near-nearest}
-use Rattle.units.proofs.Order.{alike}
-use Rattle.units.proofs.Undo.{not-moved, moved-back}
+use Rattle.units.proofs.Undo.{not-moved, moved-back, never-far}
 
--- ---- what a shift that is not refused gives
-
-module _ (m : Message) (xs ys : List ℤ) (e : shiftedOf m xs ys .refusal ≡ numbered success) where
-  none-refused : shiftRefusal m xs ys .number ≡ success
-  unfolding shiftedOf
-  none-refused = ap (λ (r : Refusal). r .number) e
-
-  pub passed : Passed (shiftChecks m xs ys)
-  unfolding shiftRefusal
-  passed = success-passed (shiftChecks m xs ys) refl none-refused
-
-  pub placed : shiftedOf m xs ys .message ≡ placedAt m (newX m xs) (newY m ys)
-  unfolding shiftedOf
-  placed = given (shiftRefusal m xs ys) _ m none-refused
-
--- a message that is placed has that position, and can be placed again
-placed-there : (m : Message) (x y : ℤ) → isSomewhere (positionOf m) ≡ true → positionOf (placedAt m x y) ≡ At (record { 0 = x }) (record { 0 = y })
-placed-there m.Blank x y h = absurd (clash h refl)
-placed-there m.S0 x y h = absurd (clash h refl)
-placed-there (m.S3 i) x y h = absurd (clash h refl)
-placed-there (m.S4 t) x y h = refl
-placed-there (m.S4Plus t) x y h = refl
-placed-there (m.S5 a) x y h = absurd (clash h refl)
-placed-there (m.S6 s) x y h = absurd (clash h refl)
-placed-there (m.S8 t) x y h = refl
-placed-there (m.S8Plus t) x y h = refl
-placed-there (m.S9 c) x y h = refl
-
-placed-again : (m : Message) (x y u v : ℤ) → placedAt (placedAt m x y) u v ≡ placedAt m u v
-placed-again m.Blank x y u v = refl
-placed-again m.S0 x y u v = refl
-placed-again (m.S3 i) x y u v = refl
-placed-again (m.S4 t) x y u v = refl
-placed-again (m.S4Plus t) x y u v = refl
-placed-again (m.S5 a) x y u v = refl
-placed-again (m.S6 s) x y u v = refl
-placed-again (m.S8 t) x y u v = refl
-placed-again (m.S8Plus t) x y u v = refl
-placed-again (m.S9 c) x y u v = refl
-
-placed-own : (m : Message) → placedAt m (xOf (positionOf m)) (yOf (positionOf m)) ≡ m
-placed-own m.Blank = refl
-placed-own m.S0 = refl
-placed-own (m.S3 i) = refl
-placed-own (m.S4 t) = refl
-placed-own (m.S4Plus t) = refl
-placed-own (m.S5 a) = refl
-placed-own (m.S6 s) = refl
-placed-own (m.S8 t) = refl
-placed-own (m.S8Plus t) = refl
-placed-own (m.S9 c) = refl
-
--- ---- the nearest steps: a shift that is not refused gives the message at a position of which each axis is nearest to the exact sum in
--- feet, and with all else as it was
-
-pub record Nearby (m : Message) (xs ys : List ℤ) (n : Message) : Type 0 where
-  pub else : n ≡ placedAt m (xOf (positionOf n)) (yOf (positionOf n))
-  pub x : Nearest 750 (pos 750 *ℤ xOf (positionOf m) +ℤ sumZ xs) (xOf (positionOf n))
-  pub y : Nearest 750 (pos 750 *ℤ yOf (positionOf m) +ℤ sumZ ys) (yOf (positionOf n))
-
-pub shift-nearest : (m : Message) (xs ys : List ℤ) → shiftedOf m xs ys .refusal ≡ numbered success → Nearby m xs ys (shiftedOf m xs ys .message)
-shift-nearest m xs ys e =
-    let there = passed m xs ys e .0 in
-    let p = placed m xs ys e in
-    let a = ap xOf (placed-there m (newX m xs) (newY m ys) there) in
-    let b = ap yOf (placed-there m (newX m xs) (newY m ys) there) in
-    rw p (record {
-      else = ap₂ (placedAt m) (sym a) (sym b);
-      x = rw a (near-nearest (pos 750 *ℤ xOf (positionOf m) +ℤ sumZ xs));
-      y = rw b (near-nearest (pos 750 *ℤ yOf (positionOf m) +ℤ sumZ ys));
-    })
-
--- ---- what is told of the inside of a message (02, item 4): its first trouble
-
-pub shift-bits : (m : Message) (xs ys : List ℤ) → AllInMessage (shiftChecks m xs ys)
-shift-bits m xs ys = (message-bit m, tt)
-
-pub shift-first : (m : Message) (xs ys : List ℤ) (place : ℕ) (c : Cause) (b : ℕ) → shiftedOf m xs ys .refusal ≡ insideAt place c b
-    → (place ≡ 1) × IsFirst (MisfitsAt m) (Wrong c b)
-unfolding shiftedOf shiftRefusal
-shift-first m xs ys place c b e =
-    ⊎-elim (λ p. (sym (p .0), subst (IsFirst (MisfitsAt m)) (p .1) (message-first m))) (λ p. absurd (p .1 .1 .1 .1 .1 .1 .1))
-    (first-told (shiftChecks m xs ys) refl place c b e .1)
-
--- ---- the order of offsets: lists in any other order
-
-pub any-order : (m : Message) {xs us ys vs : List ℤ} → List·Permᴰ xs us → List·Permᴰ ys vs → shiftedOf m xs ys ≡ shiftedOf m us vs
-unfolding shiftedOf shiftRefusal
-any-order m p q = let a = alike p in let b = alike q in rw (a .long, a .good, a .sum, b .long, b .good, b .sum)
-
--- ---- empty lists: a message with a position and legal content is shifted to itself, and the shift succeeds
+-- ---- X and Y among the fields of a layout: a position is in range just where it fits
 
 -- what fits a layout fits its first field and the rest
-fits-parts : (f : Field) (fs : List Field) (vs : Values (f ∷ fs)) → fits (f ∷ fs) vs ≡ true
-    → (ltb (writeAs f (vs .0)) (2 ^ widthOf f) ≡ true) × (fits fs (vs .1) ≡ true)
-fits-parts f fs vs e =
-    let p = both-true {a = inField f (writeAs f (vs .0))} {b = fits fs (vs .1)} (sym (fits-more f fs vs) ∙ e) in
-    (both-true {a = ltb (writeAs f (vs .0)) (2 ^ widthOf f)} {b = allows f (writeAs f (vs .0))} (p .0) .0, p .1)
+fits-parts : (f : Field) (fs : List Field) (vs : Values (f ∷ fs)) → fits (f ∷ fs) vs ≡ true → (inField f (writeAs f (vs .0)) ≡ true) × (fits fs (vs .1) ≡ true)
+fits-parts f fs vs e = both-true {a = inField f (writeAs f (vs .0))} {b = fits fs (vs .1)} (sym (fits-more f fs vs) ∙ e)
 
--- a position that fits its fields is in range
-in-range : (z : ℤ) → ltb (writeAs (signed 12) z) 8192 ≡ true → isStep z ≡ true
-in-range z e = go (ltb (mag z) 4096) refl e
+fits-both : (f : Field) (fs : List Field) (vs : Values (f ∷ fs)) → inField f (writeAs f (vs .0)) ≡ true → fits fs (vs .1) ≡ true → fits (f ∷ fs) vs ≡ true
+fits-both f fs vs p q = fits-more f fs vs ∙ ap₂ both p q
+
+-- the values after the first n, and others in their place
+after : (n : ℕ) (fs : List Field) → Values fs → Values (drop n fs)
+after zero fs vs = vs
+after (suc n) [] vs = vs
+after (suc n) (f ∷ fs) vs = after n fs (vs .1)
+
+instead : (n : ℕ) (fs : List Field) → Values fs → Values (drop n fs) → Values fs
+instead zero fs vs ws = ws
+instead (suc n) [] vs ws = ws
+instead (suc n) (f ∷ fs) vs ws = (vs .0, instead n fs (vs .1) ws)
+
+fits-after : (n : ℕ) (fs : List Field) (vs : Values fs) → fits fs vs ≡ true → fits (drop n fs) (after n fs vs) ≡ true
+unfolding after
+fits-after zero fs vs e = e
+fits-after (suc n) [] vs e = e
+fits-after (suc n) (f ∷ fs) vs e = fits-after n fs (vs .1) (fits-parts f fs vs e .1)
+
+fits-instead : (n : ℕ) (fs : List Field) (vs : Values fs) (ws : Values (drop n fs)) → fits fs vs ≡ true → fits (drop n fs) ws ≡ true → fits fs (instead n fs vs ws) ≡ true
+unfolding instead
+fits-instead zero fs vs ws e f = f
+fits-instead (suc n) [] vs ws e f = f
+fits-instead (suc n) (g ∷ fs) vs ws e f =
+    let p = fits-parts g fs vs e in fits-both g fs (vs .0, instead n fs (vs .1) ws) (p .0) (fits-instead n fs (vs .1) ws (p .1) f)
+
+-- one axis
+in-range : (z : ℤ) → inField (signed 12) (writeAs (signed 12) z) ≡ true → isStep z ≡ true
+in-range z e = go (ltb (mag z) 4096) refl (both-true {b = true} e .0)
   where
     go : (t : Bool) → ltb (mag z) 4096 ≡ t → ltb (pick t (unsignedOf 4096 z) 8192) 8192 ≡ true → isStep z ≡ true
     go true h q = mag-step z (ltb-true _ _ h)
     go false h q = absurd (omega (arith, ltb-true 8192 8192 q))
 
--- the values after the first n, which fit what is left of the layout
-rest : (n : ℕ) (fs : List Field) → Values fs → Values (drop n fs)
-rest zero fs vs = vs
-rest (suc n) [] vs = vs
-rest (suc n) (f ∷ fs) vs = rest n fs (vs .1)
+in-field : (z : ℤ) → isStep z ≡ true → inField (signed 12) (writeAs (signed 12) z) ≡ true
+in-field z e =
+    let h = step-mag z e in
+    ap (λ (t : Bool). both (ltb (pick t (unsignedOf 4096 z) 8192) 8192) true) (lt-ltb (mag z) 4096 h) ∙ ap (λ (t : Bool). both t true) (lt-ltb _ _ (unsigned-lt 4096 z h))
 
-fits-rest : (n : ℕ) (fs : List Field) (vs : Values fs) → fits fs vs ≡ true → fits (drop n fs) (rest n fs vs) ≡ true
-unfolding rest
-fits-rest zero fs vs e = e
-fits-rest (suc n) [] vs e = e
-fits-rest (suc n) (f ∷ fs) vs e = fits-rest n fs (vs .1) (fits-parts f fs vs e .1)
+-- both, where all fields before them are as they were
+abbrev axes : List Field
+axes = signed 12 ∷ signed 12 ∷ []
 
--- so for a message with which nothing is wrong
-fits-after : (n : ℕ) (m : Message) → messageTrouble m ≡ Nothing → fits (drop n (layoutOf (kindOf m))) (rest n (layoutOf (kindOf m)) (partsOf m)) ≡ true
-unfolding messageTrouble
-fits-after n m f =
-    fits-rest n (layoutOf (kindOf m)) (partsOf m) (sym (fits-anywhere 6 (layoutOf (kindOf m)) (partsOf m)) ∙ ap isNothing f)
-
-both-in-range : (x y : ℤ) → fits (signed 12 ∷ signed 12 ∷ []) (x, (y, tt)) ≡ true → (isStep x ≡ true) × (isStep y ≡ true)
-both-in-range x y e =
+both-range : (x y : ℤ) → fits axes (x, (y, tt)) ≡ true → (isStep x ≡ true) × (isStep y ≡ true)
+both-range x y e =
     let p = fits-parts (signed 12) (signed 12 ∷ []) (x, (y, tt)) e in
     (in-range x (p .0), in-range y (fits-parts (signed 12) [] (y, tt) (p .1) .0))
 
--- X and Y come after two fields of a track, six of a corner
-range : (m : Message) → isSomewhere (positionOf m) ≡ true → messageTrouble m ≡ Nothing
-    → (isStep (xOf (positionOf m)) ≡ true) × (isStep (yOf (positionOf m)) ≡ true)
-unfolding rest
-range m.Blank h f = absurd (clash h refl)
-range m.S0 h f = absurd (clash h refl)
-range (m.S3 i) h f = absurd (clash h refl)
-range (m.S4 t) h f = both-in-range (t .x .0) (t .y .0) (fits-after 2 (m.S4 t) f)
-range (m.S4Plus t) h f = both-in-range (t .x .0) (t .y .0) (fits-after 2 (m.S4Plus t) f)
-range (m.S5 a) h f = absurd (clash h refl)
-range (m.S6 s) h f = absurd (clash h refl)
-range (m.S8 t) h f = both-in-range (t .x .0) (t .y .0) (fits-after 2 (m.S8 t) f)
-range (m.S8Plus t) h f = both-in-range (t .x .0) (t .y .0) (fits-after 2 (m.S8Plus t) f)
-range (m.S9 c) h f = both-in-range (c .x .0) (c .y .0) (fits-after 6 (m.S9 c) f)
+both-fit : (x y : ℤ) → isStep x ≡ true → isStep y ≡ true → fits axes (x, (y, tt)) ≡ true
+both-fit x y p q = fits-both (signed 12) (signed 12 ∷ []) (x, (y, tt)) (in-field x p) (fits-both (signed 12) [] (y, tt) (in-field y q) refl)
 
-pub nothing-moves : (m : Message) → isSomewhere (positionOf m) ≡ true → messageTrouble m ≡ Nothing
-    → shiftedOf m [] [] ≡ record { refusal = numbered success; message = m }
-unfolding shiftedOf shiftRefusal areOffsets
-nothing-moves m h f =
-    let r = range m h f in
-    let x = not-moved (xOf (positionOf m)) in
-    let y = not-moved (yOf (positionOf m)) in
-    let e : shiftRefusal m [] [] ≡ numbered success =
-    passed-success (shiftChecks m [] []) (h, (f, (refl, (refl, (refl, (refl, (ap isStep x ∙ r .0, (ap isStep y ∙ r .1, tt)))))))) in
-    let n : shiftedOf m [] [] .message ≡ m = placed m [] [] e ∙ ap₂ (placedAt m) x y ∙ placed-own m in
-    λ i. record { refusal = e i; message = n i }
+-- so for values with which nothing is wrong
+module _ (n : ℕ) (fs : List Field) (vs : Values fs) (none : misfit 6 fs vs ≡ Nothing) where
+  all-fit : fits fs vs ≡ true
+  all-fit = sym (fits-anywhere 6 fs vs) ∙ ap isNothing none
 
--- ---- there and back: by offsets with the sums dx and dy, and then by one offset of -dx and one of -dy
+  fit-after : fits (drop n fs) (after n fs vs) ≡ true
+  fit-after = fits-after n fs vs all-fit
 
-module _ (m : Message) (xs ys : List ℤ) (ox : OddMultiple (sumZ xs) → ⊥) (oy : OddMultiple (sumZ ys) → ⊥) where
+  none-instead : (ws : Values (drop n fs)) → fits (drop n fs) ws ≡ true → misfit 6 fs (instead n fs vs ws) ≡ Nothing
+  none-instead ws f = nothing-is _ (fits-anywhere 6 fs (instead n fs vs ws) ∙ fits-instead n fs vs ws all-fit f)
+
+-- ---- a message that is placed elsewhere
+
+record Placing (m : Message) : Type 0 where
+  -- it keeps its kind, can be placed again, and is itself where it was
+  kind : (x y : ℤ) → kindOf (placedAt m x y) ≡ kindOf m
+  again : (x y u v : ℤ) → placedAt (placedAt m x y) u v ≡ placedAt m u v
+  own : placedAt m (xOf (positionOf m)) (yOf (positionOf m)) ≡ m
+  -- if it has a position, it then has the new one, which fits; and the old one did
+  there : isSomewhere (positionOf m) ≡ true → (x y : ℤ) → positionOf (placedAt m x y) ≡ At (record { 0 = x }) (record { 0 = y })
+  fit : isSomewhere (positionOf m) ≡ true → messageTrouble m ≡ Nothing → (x y : ℤ) → isStep x ≡ true → isStep y ≡ true → messageTrouble (placedAt m x y) ≡ Nothing
+  range : isSomewhere (positionOf m) ≡ true → messageTrouble m ≡ Nothing → (isStep (xOf (positionOf m)) ≡ true) × (isStep (yOf (positionOf m)) ≡ true)
+
+-- one that has none
+nowhere : (m : Message) → isSomewhere (positionOf m) ≡ false → ((x y : ℤ) → placedAt m x y ≡ m) → Placing m
+nowhere m h still =
+    record {
+      kind = λ x y. ap kindOf (still x y);
+      again = λ x y u v. ap (λ (n : Message). placedAt n u v) (still x y);
+      own = still (xOf (positionOf m)) (yOf (positionOf m));
+      there = λ p. absurd (clash p h);
+      fit = λ p. absurd (clash p h);
+      range = λ p. absurd (clash p h);
+    }
+
+-- one that has one
+somewhere : (m : Message) → ((x y : ℤ) → kindOf (placedAt m x y) ≡ kindOf m) → ((x y u v : ℤ) → placedAt (placedAt m x y) u v ≡ placedAt m u v)
+    → placedAt m (xOf (positionOf m)) (yOf (positionOf m)) ≡ m → ((x y : ℤ) → positionOf (placedAt m x y) ≡ At (record { 0 = x }) (record { 0 = y }))
+    → (messageTrouble m ≡ Nothing → (ws : Values axes) → fits axes ws ≡ true → messageTrouble (placedAt m (ws .0) (ws .1 .0)) ≡ Nothing)
+    → (messageTrouble m ≡ Nothing → fits axes (xOf (positionOf m), (yOf (positionOf m), tt)) ≡ true) → Placing m
+somewhere m kind again own there fit range =
+    record {
+      kind = kind;
+      again = again;
+      own = own;
+      there = λ h. there;
+      fit = λ h none x y p q. fit none (x, (y, tt)) (both-fit x y p q);
+      range = λ h none. both-range _ _ (range none);
+    }
+
+-- kind by kind; X and Y come after two fields of a track, six of a corner
+placing : (m : Message) → Placing m
+unfolding messageTrouble after instead
+placing m.Blank = nowhere m.Blank refl (λ x y. refl)
+placing m.S0 = nowhere m.S0 refl (λ x y. refl)
+placing (m.S3 i) = nowhere (m.S3 i) refl (λ x y. refl)
+placing (m.S4 t) = somewhere (m.S4 t) (λ x y. refl) (λ x y u v. refl) refl (λ x y. refl) (none-instead 2 trackLayout (trackParts t)) (fit-after 2 trackLayout (trackParts t))
+placing (m.S4Plus t) = somewhere (m.S4Plus t) (λ x y. refl) (λ x y u v. refl) refl (λ x y. refl) (none-instead 2 trackLayout (trackParts t)) (fit-after 2 trackLayout (trackParts t))
+placing (m.S5 a) = nowhere (m.S5 a) refl (λ x y. refl)
+placing (m.S6 s) = nowhere (m.S6 s) refl (λ x y. refl)
+placing (m.S8 t) = somewhere (m.S8 t) (λ x y. refl) (λ x y u v. refl) refl (λ x y. refl) (none-instead 2 trackLayout (trackParts t)) (fit-after 2 trackLayout (trackParts t))
+placing (m.S8Plus t) = somewhere (m.S8Plus t) (λ x y. refl) (λ x y u v. refl) refl (λ x y. refl) (none-instead 2 trackLayout (trackParts t)) (fit-after 2 trackLayout (trackParts t))
+placing (m.S9 c) = somewhere (m.S9 c) (λ x y. refl) (λ x y u v. refl) refl (λ x y. refl) (none-instead 6 cornerLayout (cornerParts c)) (fit-after 6 cornerLayout (cornerParts c))
+
+-- ---- a message that is shifted
+
+module _ (m : Message) (dx dy : ℤ) where
+  -- one without a position passes through
+  pub passes : positionOf m ≡ Nowhere → shifted m dx dy ≡ m
+  passes e = ap (λ (p : Position). shiftedFrom p m dx dy) e
+
+  module _ (x y : LinkSteps) (e : positionOf m ≡ At x y) where
+    moved : shifted m dx dy ≡ placedAt m (nearestTo (x .0) dx) (nearestTo (y .0) dy)
+    moved = ap (λ (p : Position). shiftedFrom p m dx dy) e
+
+    position-then : positionOf (shifted m dx dy) ≡ At (record { 0 = nearestTo (x .0) dx }) (record { 0 = nearestTo (y .0) dy })
+    position-then = ap positionOf moved ∙ placing m .there (ap isSomewhere e) _ _
+
+  -- it keeps its kind
+  pub shifted-kind : kindOf (shifted m dx dy) ≡ kindOf m
+  shifted-kind = go (positionOf m) refl
+    where
+      go : (p : Position) → positionOf m ≡ p → kindOf (shifted m dx dy) ≡ kindOf m
+      go Nowhere e = ap kindOf (passes e)
+      go (At x y) e = ap kindOf (moved x y e) ∙ placing m .kind _ _
+
+  -- and all else
+  pub shifted-else : shifted m dx dy ≡ placedAt m (xOf (positionOf (shifted m dx dy))) (yOf (positionOf (shifted m dx dy)))
+  shifted-else = go (positionOf m) refl
+    where
+      go : (p : Position) → positionOf m ≡ p → shifted m dx dy ≡ placedAt m (xOf (positionOf (shifted m dx dy))) (yOf (positionOf (shifted m dx dy)))
+      go Nowhere e = rw (passes e) (sym (placing m .own))
+      go (At x y) e = let p = position-then x y e in moved x y e ∙ ap₂ (placedAt m) (sym (ap xOf p)) (sym (ap yOf p))
+
+  -- and fits again, if it did and its results are in range
+  pub shifted-fits : messageTrouble m ≡ Nothing → xLands (positionOf m) dx ≡ true → yLands (positionOf m) dy ≡ true → messageTrouble (shifted m dx dy) ≡ Nothing
+  shifted-fits none = go (positionOf m) refl
+    where
+      go : (p : Position) → positionOf m ≡ p → xLands p dx ≡ true → yLands p dy ≡ true → messageTrouble (shifted m dx dy) ≡ Nothing
+      go Nowhere e a b = ap messageTrouble (passes e) ∙ none
+      go (At x y) e a b = ap messageTrouble (moved x y e) ∙ placing m .fit (ap isSomewhere e) none _ _ a b
+
+-- ---- the nearest steps: each axis is nearest to the exact sum in feet, and all else is as it was
+
+pub record Nearby (m : Message) (xs ys : List ℤ) (n : Message) : Type 0 where
+  pub else : n ≡ placedAt m (xOf (positionOf n)) (yOf (positionOf n))
+  pub x : isSomewhere (positionOf m) ≡ true → Nearest 750 (pos 750 *ℤ xOf (positionOf m) +ℤ sumZ xs) (xOf (positionOf n))
+  pub y : isSomewhere (positionOf m) ≡ true → Nearest 750 (pos 750 *ℤ yOf (positionOf m) +ℤ sumZ ys) (yOf (positionOf n))
+  -- a message without a position passes through
+  pub still : isSomewhere (positionOf m) ≡ false → n ≡ m
+
+pub shifted-nearby : (m : Message) (xs ys : List ℤ) → Nearby m xs ys (shiftedBy xs ys m)
+shifted-nearby m xs ys = go (positionOf m) refl
+  where
+    go : (p : Position) → positionOf m ≡ p → Nearby m xs ys (shiftedBy xs ys m)
+    go Nowhere e =
+        record {
+          else = shifted-else m (sumZ xs) (sumZ ys);
+          x = λ h. absurd (clash h (ap isSomewhere e));
+          y = λ h. absurd (clash h (ap isSomewhere e));
+          still = λ h. passes m (sumZ xs) (sumZ ys) e;
+        }
+    go (At x y) e =
+        let p = position-then m (sumZ xs) (sumZ ys) x y e in
+        record {
+          else = shifted-else m (sumZ xs) (sumZ ys);
+          x = λ h. rw (p, e) (near-nearest (pos 750 *ℤ x .0 +ℤ sumZ xs));
+          y = λ h. rw (p, e) (near-nearest (pos 750 *ℤ y .0 +ℤ sumZ ys));
+          still = λ h. absurd (clash (ap isSomewhere e) h);
+        }
+
+-- ---- empty lists: a message is shifted to itself, and lands
+
+pub shifted-empty : (m : Message) → shiftedBy [] [] m ≡ m
+shifted-empty m = go (positionOf m) refl
+  where
+    go : (p : Position) → positionOf m ≡ p → shiftedBy [] [] m ≡ m
+    go Nowhere e = passes m (sumZ []) (sumZ []) e
+    go (At x y) e =
+        moved m (sumZ []) (sumZ []) x y e
+        ∙ ap₂ (placedAt m) (not-moved (x .0) ∙ sym (ap xOf e)) (not-moved (y .0) ∙ sym (ap yOf e))
+        ∙ placing m .own
+
+pub empty-lands : (m : Message) → messageTrouble m ≡ Nothing → (xLands (positionOf m) (sumZ []) ≡ true) × (yLands (positionOf m) (sumZ []) ≡ true)
+empty-lands m none = go (positionOf m) refl
+  where
+    go : (p : Position) → positionOf m ≡ p → (xLands p (sumZ []) ≡ true) × (yLands p (sumZ []) ≡ true)
+    go Nowhere e = (refl, refl)
+    go (At x y) e =
+        let r = placing m .range (ap isSomewhere e) none in
+        (ap isStep (not-moved (x .0) ∙ sym (ap xOf e)) ∙ r .0, ap isStep (not-moved (y .0) ∙ sym (ap yOf e)) ∙ r .1)
+
+-- ---- there and back, by offsets and then by one offset on an axis
+
+-- the one offset takes the list's sum back, which is no odd multiple of 375
+abbrev pub TakesBack : List ℤ → List ℤ → Type 0
+TakesBack xs us = (us ≡ negℤ (sumZ xs) ∷ []) × (OddMultiple (sumZ xs) → ⊥)
+
+taken-back : (old : ℤ) (xs us : List ℤ) → TakesBack xs us → movedTo (movedTo old xs) us ≡ old
+taken-back old xs us (e, odd) = ap (movedTo (movedTo old xs)) e ∙ moved-back old xs odd
+
+module _ (m : Message) (xs ys us vs : List ℤ) where
   -- the message after the way there, and after the way back
-  abbrev pub there : Message
-  there = shiftedOf m xs ys .message
+  abbrev pub gone : Message
+  gone = shiftedBy xs ys m
 
-  abbrev pub back : Message → Shifted
-  back n = shiftedOf n (negℤ (sumZ xs) ∷ []) (negℤ (sumZ ys) ∷ [])
+  abbrev pub back : Message
+  back = shiftedBy us vs gone
 
-  -- two shifts that are not refused, there and back, give the message back
-  pub shift-back : shiftedOf m xs ys .refusal ≡ numbered success → back there .refusal ≡ numbered success → back there .message ≡ m
-  shift-back q r =
-      let at = placed-there m (newX m xs) (newY m ys) (passed m xs ys q .0) in
-      let p = placed m xs ys q in
-      let n = placedAt m (newX m xs) (newY m ys) in
-      let s : back n .refusal ≡ numbered success = sym (ap (λ (k : Message). back k .refusal) p) ∙ r in
-      ap (λ (k : Message). back k .message) p
-      ∙ placed n (negℤ (sumZ xs) ∷ []) (negℤ (sumZ ys) ∷ []) s
-      ∙ placed-again m (newX m xs) (newY m ys) (newX n (negℤ (sumZ xs) ∷ [])) (newY n (negℤ (sumZ ys) ∷ []))
-      ∙ ap₂ (placedAt m)
-      (ap (λ (z : ℤ). movedTo z (negℤ (sumZ xs) ∷ [])) (ap xOf at) ∙ moved-back (xOf (positionOf m)) xs ox)
-      (ap (λ (z : ℤ). movedTo z (negℤ (sumZ ys) ∷ [])) (ap yOf at) ∙ moved-back (yOf (positionOf m)) ys oy)
-      ∙ placed-own m
+  stays-gone : positionOf m ≡ Nowhere → gone ≡ m
+  stays-gone = passes m (sumZ xs) (sumZ ys)
+
+  position-gone : (x y : LinkSteps) → positionOf m ≡ At x y → positionOf gone ≡ At (record { 0 = movedTo (x .0) xs }) (record { 0 = movedTo (y .0) ys })
+  position-gone = position-then m (sumZ xs) (sumZ ys)
+
+  -- each axis by itself, whatever the other's lists
+  pub axes-back : (TakesBack xs us → xOf (positionOf back) ≡ xOf (positionOf m)) × (TakesBack ys vs → yOf (positionOf back) ≡ yOf (positionOf m))
+  axes-back = go (positionOf m) refl
+    where
+      go : (p : Position) → positionOf m ≡ p → (TakesBack xs us → xOf (positionOf back) ≡ xOf (positionOf m)) × (TakesBack ys vs → yOf (positionOf back) ≡ yOf (positionOf m))
+      go Nowhere e =
+          let s = stays-gone e in
+          let same : positionOf back ≡ positionOf m = ap positionOf (passes gone (sumZ us) (sumZ vs) (ap positionOf s ∙ e) ∙ s) in
+          (λ t. ap xOf same, λ t. ap yOf same)
+      go (At x y) e =
+          let p = position-then gone (sumZ us) (sumZ vs) _ _ (position-gone x y e) in
+          (λ t. ap xOf p ∙ taken-back (x .0) xs us t ∙ sym (ap xOf e), λ t. ap yOf p ∙ taken-back (y .0) ys vs t ∙ sym (ap yOf e))
+
+  -- both
+  pub both-back : TakesBack xs us → TakesBack ys vs → back ≡ m
+  both-back s t =
+      shifted-else gone (sumZ us) (sumZ vs)
+      ∙ ap (λ (n : Message). placedAt n (xOf (positionOf back)) (yOf (positionOf back))) (shifted-else m (sumZ xs) (sumZ ys))
+      ∙ placing m .again _ _ _ _ ∙ ap₂ (placedAt m) (axes-back .0 s) (axes-back .1 t) ∙ placing m .own
+
+  -- the way back of a message that fits lands
+  pub back-lands : messageTrouble m ≡ Nothing
+      → (TakesBack xs us → xLands (positionOf gone) (sumZ us) ≡ true) × (TakesBack ys vs → yLands (positionOf gone) (sumZ vs) ≡ true)
+  back-lands none = go (positionOf m) refl
+    where
+      go : (p : Position) → positionOf m ≡ p → (TakesBack xs us → xLands (positionOf gone) (sumZ us) ≡ true) × (TakesBack ys vs → yLands (positionOf gone) (sumZ vs) ≡ true)
+      go Nowhere e =
+          let p = ap positionOf (stays-gone e) ∙ e in
+          (λ t. ap (λ (q : Position). xLands q (sumZ us)) p, λ t. ap (λ (q : Position). yLands q (sumZ vs)) p)
+      go (At x y) e =
+          let p = position-gone x y e in
+          let r = placing m .range (ap isSomewhere e) none in (
+            λ t. ap (λ (q : Position). xLands q (sumZ us)) p ∙ ap isStep (taken-back (x .0) xs us t ∙ sym (ap xOf e)) ∙ r .0,
+            λ t. ap (λ (q : Position). yLands q (sumZ vs)) p ∙ ap isStep (taken-back (y .0) ys vs t ∙ sym (ap yOf e)) ∙ r .1,
+          )
+
+-- a message that fits and lands was not moved by more than 6,144,000 feet
+pub lands-near : (m : Message) (xs ys : List ℤ) → isSomewhere (positionOf m) ≡ true → messageTrouble m ≡ Nothing → xLands (positionOf m) (sumZ xs) ≡ true → yLands (positionOf m) (sumZ ys) ≡ true
+    → (natAbs (sumZ xs) ≤ 6144000) × (natAbs (sumZ ys) ≤ 6144000)
+lands-near m xs ys h none = go (positionOf m) refl
+  where
+    go : (p : Position) → positionOf m ≡ p → xLands p (sumZ xs) ≡ true → yLands p (sumZ ys) ≡ true → (natAbs (sumZ xs) ≤ 6144000) × (natAbs (sumZ ys) ≤ 6144000)
+    go Nowhere e a b = absurd (clash h (ap isSomewhere e))
+    go (At x y) e a b =
+        let r = placing m .range h none in
+        (never-far (x .0) xs (sym (ap (λ (p : Position). isStep (xOf p)) e) ∙ r .0) a, never-far (y .0) ys (sym (ap (λ (p : Position). isStep (yOf p)) e) ∙ r .1) b)

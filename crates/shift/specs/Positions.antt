@@ -26,7 +26,7 @@ positionOf (S8 t) = trackPosition t
 positionOf (S8Plus t) = trackPosition t
 positionOf (S9 c) = cornerPosition c
 
--- X and Y in steps, 0 where there is no position
+-- whether there is a position; X and Y in steps, 0 where there is none
 abbrev pub isSomewhere : Position → Bool
 isSomewhere (At x y) = true
 isSomewhere Nowhere = false

@@ -1,11 +1,10 @@
-// The shift of a message: a position on both axes, moved by lists of offsets in feet. The feet are added exactly and rounded once, at the end.
+// The shift of a pair: each message that has a position is moved by lists of offsets in feet, the same lists for both; one without a position passes
+// through. The feet are added exactly and rounded once, at the end.
 
 ghost use mathlib.Core.Path.{_≡_};
-ghost use Rattle.units.specs.Steps.{nearestTo};
 ghost use Rattle.shift.specs.Positions.{trackPosition, cornerPosition, positionOf, placedTrack, placedCorner, placedAt};
-ghost use Rattle.shift.specs.Shift.{sumsOf, newPosition, movedPosition, leftAs, finishedOf, shiftedOf};
+ghost use Rattle.shift.specs.Shift.{sumsOf, movedOf, shiftedOf, bothShifted, pairShifted};
 use message::Corner;
-use message::Encoded;
 use message::Message;
 use message::Track;
 use refusal::Refusal;
@@ -26,16 +25,16 @@ pub enum Sums {
     Refused(Refusal),
 }
 
-// Where both axes have moved to, or the refusal of one.
-pub enum NewPosition {
-    At(LinkSteps, LinkSteps),
+// A message after the shift, or the refusal of a result.
+pub enum Shifted {
+    To(Message),
     Refused(Refusal),
 }
 
-// The message with its new position; on a refusal the message as it was.
-pub struct Shifted {
-    pub refusal: Refusal,
-    pub message: Message,
+// Both messages after the shift, or the refusal of a list or a result.
+pub enum ShiftedPair {
+    Of(Message, Message),
+    Refused(Refusal),
 }
 
 fn track_position(t: Track) -> Position
@@ -133,58 +132,55 @@ fn add_both(xs: &[i32], ys: &[i32]) -> Sums
     Sums::Of(dx, dy)
 }
 
-fn step_both(x: LinkSteps, dx: Feet, y: LinkSteps, dy: Feet) -> NewPosition
-    ensures { λ r. ⌜ r ≡ newPosition (nearestTo (x .0) (dx .0)) (nearestTo (y .0) (dy .0)) ⌝ }
+// A message at x and y, moved. A result out of range is refused 9, at place px on X and py on Y.
+fn move_message(
+    m: Message,
+    x: LinkSteps,
+    y: LinkSteps,
+    dx: Feet,
+    dy: Feet,
+    px: u8,
+    py: u8,
+) -> Shifted
+    ensures { λ r. ⌜ r ≡ movedOf m (x .0) (y .0) (dx .0) (dy .0) px py ⌝ }
 {
     let Moved::To(a) = units::move_step(x, dx) else {
-        return NewPosition::Refused(Refusal::at(refusal::OUT_OF_RANGE, 1));
+        return Shifted::Refused(Refusal::at(refusal::OUT_OF_RANGE, px));
     };
     let Moved::To(b) = units::move_step(y, dy) else {
-        return NewPosition::Refused(Refusal::at(refusal::OUT_OF_RANGE, 2));
+        return Shifted::Refused(Refusal::at(refusal::OUT_OF_RANGE, py));
     };
-    NewPosition::At(a, b)
+    Shifted::To(place(m, a, b))
 }
 
-fn move_both(x: LinkSteps, y: LinkSteps, xs: &[i32], ys: &[i32]) -> NewPosition
-    ensures { λ r. ⌜ r ≡ movedPosition (x .0) (y .0) (now (xs .entry)) (now (ys .entry)) ⌝ }
+fn shift(m: Message, dx: Feet, dy: Feet, px: u8, py: u8) -> Shifted
+    ensures { λ r. ⌜ r ≡ shiftedOf m (dx .0) (dy .0) px py ⌝ }
 {
-    match add_both(xs, ys) {
-        Sums::Refused(r) => NewPosition::Refused(r),
-        Sums::Of(dx, dy) => step_both(x, dx, y, dy),
+    match find_position(m) {
+        Position::Nowhere => Shifted::To(m),
+        Position::At(x, y) => move_message(m, x, y, dx, dy, px, py),
     }
 }
 
-// A refusal leaves the message as it was.
-fn refuse(m: Message, r: Refusal) -> Shifted
-    ensures { λ s. ⌜ s ≡ leftAs m r ⌝ }
+// Places 1 and 2 are the first message's X and Y, 3 and 4 the second's.
+fn shift_both(first: Message, second: Message, dx: Feet, dy: Feet) -> ShiftedPair
+    ensures { λ r. ⌜ r ≡ bothShifted first second (dx .0) (dy .0) ⌝ }
 {
-    Shifted {
-        refusal: r,
-        message: m,
-    }
-}
-
-fn finish(m: Message, position: NewPosition) -> Shifted
-    ensures { λ r. ⌜ r ≡ finishedOf m position ⌝ }
-{
-    match position {
-        NewPosition::Refused(r) => refuse(m, r),
-        NewPosition::At(x, y) => Shifted {
-            refusal: Refusal::of(refusal::SUCCESS),
-            message: place(m, x, y),
+    match shift(first, dx, dy, 1, 2) {
+        Shifted::Refused(r) => ShiftedPair::Refused(r),
+        Shifted::To(a) => match shift(second, dx, dy, 3, 4) {
+            Shifted::Refused(r) => ShiftedPair::Refused(r),
+            Shifted::To(b) => ShiftedPair::Of(a, b),
         },
     }
 }
 
-// Shifts a message: 11, 14 and 15, 2 X, 2 Y, 9 on X offsets, 9 on Y offsets, 9 on X result, 9 on Y result.
-pub fn shift(m: Message, xs: &[i32], ys: &[i32]) -> Shifted
-    ensures { λ r. ⌜ r ≡ shiftedOf m (now (xs .entry)) (now (ys .entry)) ⌝ }
+// Shifts a pair: 2 X, 2 Y, 9 on X offsets, 9 on Y offsets, then 9 on results. The lists are checked also where neither message has a position.
+pub fn shift_pair(first: Message, second: Message, xs: &[i32], ys: &[i32]) -> ShiftedPair
+    ensures { λ r. ⌜ r ≡ pairShifted first second (now (xs .entry)) (now (ys .entry)) ⌝ }
 {
-    let Position::At(x, y) = find_position(m) else {
-        return refuse(m, Refusal::of(refusal::NO_POSITION));
-    };
-    match message::encode(1, m) {
-        Encoded::Refused(r) => refuse(m, r),
-        Encoded::Word(_) => finish(m, move_both(x, y, xs, ys)),
+    match add_both(xs, ys) {
+        Sums::Refused(r) => ShiftedPair::Refused(r),
+        Sums::Of(dx, dy) => shift_both(first, second, dx, dy),
     }
 }

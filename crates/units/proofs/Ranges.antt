@@ -3,7 +3,7 @@ use mathlib.Core.Path.{_≡_, refl, sym, ap, _∙_}
 use mathlib.Core.Bool.{Bool, true, false, not}
 use Prim.Native.Nat.{_+_, _≤_, _<_}
 use native.Mathlib.Omega.{arith}
-use borrow.Author.Tests.{le-leb}
+use borrow.Author.Tests.{le-leb, leb-true}
 use lib.IntN.{ℤ, pos, negsuc}
 use lib.Signed.{mag, leZ, ltZ}
 use mir.Syntax.{w16}
@@ -13,8 +13,8 @@ use Rattle.units.specs.Offsets.{within}
 use Rattle.units.specs.Steps.{nearestTo, isStep, movedBy}
 use Rattle.units.specs.declared.LinkSteps.{LinkSteps}
 use Rattle.units.specs.declared.Moved.the-variants as M
-use Rattle.bits.proofs.TestLaws.{zero-one, both-true, both-false}
-use Rattle.units.proofs.Parts.{up, dn, le-is, le-true, lt-false, sfits, side}
+use Rattle.bits.proofs.TestLaws.{never-true, zero-one, both-true, both-false}
+use Rattle.units.proofs.Parts.{up, dn, le-is, le-true, lt-true, lt-false, sfits, side}
 
 module _ (lo hi z : ℤ) where
   -- from the lower end on, the test of the upper end decides
@@ -36,6 +36,9 @@ module _ (lo hi z : ℤ) where
   pub within-parts : within lo hi z ≡ true → (up lo + dn z ≤ up z + dn lo) × (up z + dn hi ≤ up hi + dn z)
   unfolding within
   within-parts e = let p = both-true e in (le-true lo z (p .0), le-true z hi (p .1))
+
+  pub within-by : up lo + dn z ≤ up z + dn lo → up z + dn hi ≤ up hi + dn z → within lo hi z ≡ true
+  within-by h l = within-yes (never-true (ltZ z lo) (λ t. omega (arith, lt-true z lo t))) (never-true (ltZ hi z) (λ t. omega (arith, lt-true hi z t)))
 
 -- ---- a move, by the tests of its steps
 
@@ -81,3 +84,8 @@ pub mag-step : (z : ℤ) → mag z < 4096 → isStep z ≡ true
 unfolding within
 mag-step (pos n) h = le-leb n 4095 (omega arith)
 mag-step (negsuc n) h = ap (λ (t : Bool). both t true) (le-leb n 4095 (omega arith))
+
+pub step-mag : (z : ℤ) → isStep z ≡ true → mag z < 4096
+unfolding within
+step-mag (pos n) e = omega (arith, leb-true n 4095 e)
+step-mag (negsuc n) e = omega (arith, leb-true n 4095 (both-true e .0))

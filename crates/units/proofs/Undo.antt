@@ -1,13 +1,15 @@
 -- A move by offsets with the sum d and then by one offset of -d gives back the position, unless d is an odd multiple of 375. Assumes nothing.
 use mathlib.Core.Path.{_≡_, ap, _∙_}
+use mathlib.Core.Bool.{true}
 use mathlib.Core.List.{List, [], _∷_}
-use Prim.Native.Nat.{ℕ, zero, suc, _+_, _-_, _*_, min, _<_}
+use Prim.Native.Nat.{ℕ, zero, suc, _+_, _-_, _*_, min, _≤_, _<_}
 use native.Mathlib.Omega.{arith}
-use lib.IntN.{ℤ, pos, negsuc, negℤ, _+ℤ_, _*ℤ_, +ℤ-idr}
-use Rattle.units.specs.Offsets.{sumZ}
-use Rattle.units.specs.Steps.{near, movedTo}
+use lib.IntN.{ℤ, pos, negsuc, negℤ, natAbs, _+ℤ_, _*ℤ_, +ℤ-idr}
+use Rattle.units.specs.Offsets.{isOffset, sumZ}
+use Rattle.units.specs.Steps.{near, isStep, movedTo}
 use Rattle.units.specs.Nearest.{dist, OddMultiple}
-use Rattle.units.proofs.Parts.{up, dn, side, from-parts, add-parts, neg-parts, mul-parts}
+use Rattle.units.proofs.Parts.{up, dn, side, abs-parts, from-parts, add-parts, neg-parts, mul-parts}
+use Rattle.units.proofs.Ranges.{within-parts, within-by}
 use Rattle.units.proofs.Rounding.{near-parts}
 use Rattle.units.proofs.Nearest.{apart, near-within}
 
@@ -60,3 +62,28 @@ moved-back old xs even =
 pub not-moved : (old : ℤ) → movedTo old [] ≡ old
 unfolding sumZ
 not-moved old = near-strict (pos 750 *ℤ old +ℤ pos 0) old (omega (arith, apart 750 old (pos 750 *ℤ old +ℤ pos 0), add-parts (pos 750 *ℤ old) (pos 0), mul-parts 750 old))
+
+-- ---- whether one offset can take a sum back
+
+pub offset-back : (d : ℤ) → natAbs d ≤ 6144000 → isOffset (negℤ d) ≡ true
+offset-back d h = within-by (negsuc 6143999) (pos 6144000) (negℤ d) (omega (arith, abs-parts d, neg-parts d)) (omega (arith, abs-parts d, neg-parts d))
+
+pub too-far-back : (d : ℤ) → 6144000 < natAbs d → isOffset (negℤ d) ≡ true → ⊥
+too-far-back d h e = omega (arith, abs-parts d, neg-parts d, side d, within-parts (negsuc 6143999) (pos 6144000) (negℤ d) e)
+
+-- from one step of the link to another it can: there are 8,191 steps between them at most
+pub never-far : (old : ℤ) (xs : List ℤ) → isStep old ≡ true → isStep (movedTo old xs) ≡ true → natAbs (sumZ xs) ≤ 6144000
+never-far old xs p q =
+    let f = pos 750 *ℤ old +ℤ sumZ xs in
+    omega (
+      arith,
+      within-parts (negsuc 4095) (pos 4095) old p,
+      within-parts (negsuc 4095) (pos 4095) (near f) q,
+      near-parts f,
+      side f,
+      side old,
+      side (sumZ xs),
+      add-parts (pos 750 *ℤ old) (sumZ xs),
+      mul-parts 750 old,
+      abs-parts (sumZ xs),
+    )

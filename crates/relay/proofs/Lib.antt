@@ -1,0 +1,2 @@
+mod RelayLaws
+pub mod Theorems
