@@ -1,41 +1,18 @@
 -- What the shift's steps answer: the lists, then the first message, then the second. Assumes nothing.
-use mathlib.Core.Path.{_≡_, refl, sym, ap, ap₂, _∙_}
-use mathlib.Core.List.{List, [], _∷_}
-use Prim.Native.Nat.{ℕ}
+use mathlib.Core.Path.{_≡_, refl, sym, ap₂, _∙_}
+use mathlib.Core.List.{List, []}
 use lib.IntN.{ℤ}
-use Rattle.refusal.specs.Refusals.{outOfRange}
-use Rattle.refusal.specs.Checks.{checkAt, firstRefusal, answered}
+use Rattle.refusal.specs.Checks.{firstRefusal, answered}
 use Rattle.refusal.specs.declared.Refusal.{Refusal}
 use Rattle.units.specs.Offsets.{sumZ}
 use Rattle.units.specs.declared.Feet.{Feet}
-use Rattle.units.specs.declared.LinkSteps.{LinkSteps}
 use Rattle.message.specs.declared.Message.{Message}
-use Rattle.shift.specs.Positions.{positionOf}
-use Rattle.shift.specs.Shift.{shiftedFrom, shifted, shiftedBy, xLands, yLands, listChecks, resultChecks, bothChecks, pairShifted, sumsOf, bothShifted, shiftedOf, movedOf}
-use Rattle.shift.specs.declared.Position.{Position}
-use Rattle.shift.specs.declared.Position.the-variants.{At, Nowhere}
-use Rattle.shift.specs.declared.Shifted.{Shifted}
+use Rattle.shift.specs.Shift.{shifted, shiftedBy, listChecks, resultChecks, bothChecks, pairShifted, sumsOf, bothShifted, shiftedOf}
 use Rattle.shift.specs.declared.Sums.the-variants as U
 use Rattle.shift.specs.declared.Shifted.the-variants as S
 use Rattle.shift.specs.declared.ShiftedPair.the-variants as P
 use Rattle.bits.proofs.TestLaws.{zero-one}
 use Rattle.refusal.proofs.CheckLaws.{stage-refused, stage-passed}
-
--- ---- one message, by its position
-
-module _ (m : Message) (dx dy : ℤ) (px py : ℕ) where
-  abbrev from : Position → Shifted
-  from p =
-      answered S.Refused (firstRefusal (checkAt (xLands p dx) outOfRange px ∷ checkAt (yLands p dy) outOfRange py ∷ []))
-      (S.To (shiftedFrom p m dx dy))
-
-  pub nowhere-passes : positionOf m ≡ Nowhere → S.To m ≡ shiftedOf m dx dy px py
-  unfolding shiftedOf
-  nowhere-passes e = sym (ap from e)
-
-  pub moved-from : (x y : LinkSteps) → positionOf m ≡ At x y → movedOf m (x .0) (y .0) dx dy px py ≡ shiftedOf m dx dy px py
-  unfolding shiftedOf movedOf
-  moved-from x y e = sym (ap from e)
 
 -- ---- the first message, and then the second
 

@@ -87,11 +87,3 @@ bothShifted first second dx dy =
 -- one message
 unfoldable pub shiftedOf : Message → ℤ → ℤ → ℕ → ℕ → Shifted
 shiftedOf m dx dy px py = answered S.Refused (firstRefusal (resultChecks m dx dy px py)) (S.To (shifted m dx dy))
-
--- one message that is at x and y
-abbrev pub stepChecks : ℤ → ℤ → ℕ → ℕ → List Check
-stepChecks x y px py = checkAt (isStep x) outOfRange px ∷ checkAt (isStep y) outOfRange py ∷ []
-
-unfoldable pub movedOf : Message → ℤ → ℤ → ℤ → ℤ → ℕ → ℕ → Shifted
-movedOf m x y dx dy px py =
-    answered S.Refused (firstRefusal (stepChecks (nearestTo x dx) (nearestTo y dy) px py)) (S.To (placedAt m (nearestTo x dx) (nearestTo y dy)))

@@ -3,7 +3,7 @@
 
 ghost use mathlib.Core.Path.{_≡_};
 ghost use Rattle.shift.specs.Positions.{trackPosition, cornerPosition, positionOf, placedTrack, placedCorner, placedAt};
-ghost use Rattle.shift.specs.Shift.{sumsOf, movedOf, shiftedOf, bothShifted, pairShifted};
+ghost use Rattle.shift.specs.Shift.{sumsOf, shiftedOf, bothShifted, pairShifted};
 use message::Corner;
 use message::Message;
 use message::Track;
@@ -132,18 +132,13 @@ fn add_both(xs: &[i32], ys: &[i32]) -> Sums
     Sums::Of(dx, dy)
 }
 
-// A message at x and y, moved. A result out of range is refused 9, at place px on X and py on Y.
-fn move_message(
-    m: Message,
-    x: LinkSteps,
-    y: LinkSteps,
-    dx: Feet,
-    dy: Feet,
-    px: u8,
-    py: u8,
-) -> Shifted
-    ensures { λ r. ⌜ r ≡ movedOf m (x .0) (y .0) (dx .0) (dy .0) px py ⌝ }
+// A message without a position passes through. A result out of range is refused 9, at place px on X and py on Y.
+fn shift(m: Message, dx: Feet, dy: Feet, px: u8, py: u8) -> Shifted
+    ensures { λ r. ⌜ r ≡ shiftedOf m (dx .0) (dy .0) px py ⌝ }
 {
+    let Position::At(x, y) = find_position(m) else {
+        return Shifted::To(m);
+    };
     let Moved::To(a) = units::move_step(x, dx) else {
         return Shifted::Refused(Refusal::at(refusal::OUT_OF_RANGE, px));
     };
@@ -151,15 +146,6 @@ fn move_message(
         return Shifted::Refused(Refusal::at(refusal::OUT_OF_RANGE, py));
     };
     Shifted::To(place(m, a, b))
-}
-
-fn shift(m: Message, dx: Feet, dy: Feet, px: u8, py: u8) -> Shifted
-    ensures { λ r. ⌜ r ≡ shiftedOf m (dx .0) (dy .0) px py ⌝ }
-{
-    match find_position(m) {
-        Position::Nowhere => Shifted::To(m),
-        Position::At(x, y) => move_message(m, x, y, dx, dy, px, py),
-    }
 }
 
 // Places 1 and 2 are the first message's X and Y, 3 and 4 the second's.
