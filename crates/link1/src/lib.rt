@@ -1,6 +1,6 @@
 // Link 1: the public list. Each public call and type, from the crate that has it.
 
-// The numbers a caller may get back.
+// The numbers a caller may get back; 8 and 11 are no longer given.
 pub use refusal::BAD_CHECK;
 pub use refusal::BAD_LENGTH;
 pub use refusal::BAD_LEVEL;

@@ -1,4 +1,4 @@
-// The numbers a caller may get back, each by its name (01, 'Numbers a caller may get back'; 02, items 4 and 6).
+// The numbers a caller may get back, each by its name (01, 'Numbers a caller may get back'; 02, items 4 and 6). 8 and 11 are no longer given.
 
 ghost use mathlib.Core.Path.{_≡_};
 ghost use Rattle.refusal.specs.Refusals.{numbered, numberedAt, numberedIn, causeNumber, insideAt};
