@@ -1,2 +1,3 @@
 mod ShiftLaws
+mod PlaceLaws
 pub mod Theorems
