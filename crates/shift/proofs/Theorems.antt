@@ -7,7 +7,7 @@ use Prim.Native.Nat.{_≤_}
 use lib.IntN.{ℤ, pos, negℤ, natAbs, _+ℤ_, _*ℤ_}
 use Rattle.bits.specs.declared.Trouble.the-variants.{Nothing}
 use Rattle.units.specs.Offsets.{sumZ}
-use Rattle.units.specs.Steps.{nearestTo, isStep, movedTo}
+use Rattle.units.specs.Steps.{nearestTo, isStep}
 use Rattle.units.specs.Nearest.{Nearest, OddMultiple}
 use Rattle.units.specs.declared.LinkSteps.{LinkSteps}
 use Rattle.message.specs.Codec.{messageTrouble}
@@ -19,7 +19,7 @@ use Rattle.shift.specs.declared.Position.{Position}
 use Rattle.shift.specs.declared.Position.the-variants.{At, Nowhere}
 use Rattle.bits.proofs.TestLaws.{clash}
 use Rattle.units.proofs.Nearest.{near-nearest}
-use Rattle.units.proofs.Undo.{not-moved, moved-back, never-far}
+use Rattle.units.proofs.Undo.{movedTo, not-moved, moved-back, never-far}
 use Rattle.shift.proofs.PlaceLaws.{placing}
 
 -- ---- a message that is shifted

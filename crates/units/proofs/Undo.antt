@@ -6,12 +6,16 @@ use Prim.Native.Nat.{ℕ, zero, suc, _+_, _-_, _*_, min, _≤_, _<_}
 use native.Mathlib.Omega.{arith}
 use lib.IntN.{ℤ, pos, negsuc, negℤ, natAbs, _+ℤ_, _*ℤ_, +ℤ-idr}
 use Rattle.units.specs.Offsets.{isOffset, sumZ}
-use Rattle.units.specs.Steps.{near, isStep, movedTo}
+use Rattle.units.specs.Steps.{near, nearestTo, isStep}
 use Rattle.units.specs.Nearest.{dist, OddMultiple}
 use Rattle.units.proofs.Parts.{up, dn, side, abs-parts, from-parts, add-parts, neg-parts, mul-parts}
 use Rattle.units.proofs.Ranges.{within-parts, within-by}
 use Rattle.units.proofs.Rounding.{near-parts}
 use Rattle.units.proofs.Nearest.{apart, near-within}
+
+-- a position moved by a list
+abbrev pub movedTo : ℤ → List ℤ → ℤ
+movedTo old xs = nearestTo old (sumZ xs)
 
 -- less than half a step away: that is the nearest
 pub near-strict : (f n : ℤ) → dist 750 n f < 375 → near f ≡ n

@@ -1,10 +1,9 @@
 -- Link steps of 750 feet (01, 'The shift').
 use mathlib.Core.Bool.{Bool}
-use mathlib.Core.List.{List}
 use Prim.Native.Nat.{suc, _+_, _/_}
 use lib.IntN.{ℤ, pos, negsuc, negℤ, _+ℤ_, _*ℤ_}
 use Rattle.bits.specs.Tests.{pick}
-use Rattle.units.specs.Offsets.{within, sumZ}
+use Rattle.units.specs.Offsets.{within}
 use Rattle.units.specs.declared.Moved.{Moved}
 use Rattle.units.specs.declared.Moved.the-variants as M
 
@@ -13,12 +12,9 @@ unfoldable pub near : ℤ → ℤ
 near (pos f) = pos ((f + 375) / 750)
 near (negsuc f) = negℤ (pos ((suc f + 375) / 750))
 
--- the step nearest to 750 times the old value plus so many feet, and plus the sum of a list
+-- the step nearest to 750 times the old value plus so many feet
 abbrev pub nearestTo : ℤ → ℤ → ℤ
 nearestTo old feet = near (pos 750 *ℤ old +ℤ feet)
-
-abbrev pub movedTo : ℤ → List ℤ → ℤ
-movedTo old xs = nearestTo old (sumZ xs)
 
 -- from -4096 to 4095
 abbrev pub isStep : ℤ → Bool
