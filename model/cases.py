@@ -1677,6 +1677,159 @@ def relays_half_way_back():
     return cases
 
 
+# 02 Item 7: one wrong level.
+
+def handed_over(levels):
+    """What a fresh receiver hands over of these levels: each frame's image, and on which level."""
+    state, frames = link1.FRESH, []
+    for number, level in enumerate(levels, 1):
+        state, (_, handed, frame) = link1.hear(state, level)
+        if handed == 1:
+            frames.append((number, frame))
+    return frames
+
+
+def wrong_rightly(previous, octets):
+    """02 Item 7: each wrong level is refused, as 001 argues by its place, and a fresh receiver hands over nothing."""
+    levels = link1.sent_levels(previous, octets)
+    return (levels == run_of(bits_of(octets), previous) and link1.decoded_image(levels) == octets
+            and link1.one_wrong_verdicts(previous, octets) == [link1.one_wrong_by_place(n) for n in range(129)]
+            and all(handed_over(link1.with_wrong(levels, n)) == [] for n in range(129)))
+
+
+def wrongs(previous, images):
+    """Images with one wrong level each, after this previous level."""
+    for octets in images:
+        sent = link1.send(previous, octets, bytes(128))[0] == link1.GOOD
+        assert not sent or wrong_rightly(previous, octets)
+    return [lines.wrong_levels(previous, octets) for octets in images]
+
+
+# Every bit of both messages one, and ones and zeros in turn.
+FULL_WORDS = word_image(dict.fromkeys(range(1, 50), 1), dict.fromkeys(range(1, 50), 1))
+STRIPED = tuple(word_image({n: (n + bit) % 2 for n in range(1, 50)}, {n: (n + bit) % 2 for n in range(1, 50)})
+                for bit in (0, 1))
+
+
+def one_wrong_level():
+    """One wrong level of the examples, of each legal pair, of all zeros, all ones and random-looking bits."""
+    stream = Stream(22)
+    images = [T, P, N, Q, FULL_WORDS, *STRIPED] + [image(FIRST[first], SECOND[second]) for first, second in LEGAL_PAIRS]
+    cases = wrongs(0, images) + wrongs(1, images)
+    for previous in (0, 1):
+        cases += wrongs(previous, [word_image(stream.word(), stream.word()) for _ in range(30)])
+    return cases
+
+
+def one_wrong_refused():
+    """One wrong level of what is not sent: lengths, previous levels, each framing bit, every choice of faults."""
+    cases = wrongs(1, [(P * 2)[:length] for length in (0, 1, 8, 14, 15, 17, 18, 32)])
+    cases += [case for previous in (2, 3, 7, 9, 10, 48, 49, 127, 128, 129, 254, 255) for case in wrongs(previous, [T])]
+    cases += [case for n in FRAMING for case in wrongs(n % 2, [turned(HEARD[4], n)])]
+    cases += wrongs(0, [turned(HEARD[6], n) for n in (10, 15, 60, 65, 66, 70, 115)])
+    for chosen in range(32):
+        wrong = [chosen // 2 ** place % 2 == 1 for place in range(5)]
+        octets = turned(HEARD[5], *[number for fault, number in zip(wrong[2:], (1, 128, 127)) if fault])
+        cases += wrongs(2 + chosen if wrong[1] else 0, [octets + octets[:1] if wrong[0] else octets])
+    return cases
+
+
+def one_wrong_writings():
+    """One wrong level, written in other ways, and lines of it that are not understood."""
+    by_hand = (("0", 0, b""), ("255", 255, b""), ("2 x", 2, b""), ("1 x x", 1, b""), ("0 x00ba*14 xff", 0, T),
+               ("1 x00 xba*14 xff", 1, T), ("1 :0 x xba*7 xba*7 xff*1", 1, T), ("2 :0 xba*14 xff", 2, T),
+               ("0 x00c4 x80*13 xbb", 0, P), ("1 x%s" % P.hex(), 1, P), ("0 :0*16", 0, bytes(16)),
+               ("1 =0123456789abcdef", 1, b"0123456789abcdef"), ("0 =0", 0, b"0"), ("3 x00*65664", 3, bytes(65664)),
+               ("0 :" + "0" * 8176, 0, bytes(8176)))
+    cases = [("wrong_levels " + text, wrongs(previous, [octets])[0][1]) for text, previous, octets in by_hand]
+    p = "x00c480*13 xbb"
+    numbers = ["00", "01", "-0", "-1", "+1", "-", "256", "257", "1000", "1.0", "0x1", "1e0", "one", "O", "'1'", "1,",
+               "\xb2", "1_0", "18446744073709551617", "99999999999999999999999999", "x00", ":0", "=0"]
+    texts = [" %s %s" % (number, p) for number in numbers] + [" 256", " 00", " -1", " a"]
+    texts += ["", " ", " " + p, " x", "  0 " + p, " 0  " + p, " 0 ", " 0 %s " % p, " 0 x00  x00", " 0 0 " + p,
+              " 0 128 " + p, " %s 0" % p, " 0 %s 0" % p, " 0 %s ?" % p, " 0 00c4", " 0 0", " 0 x0", " 0 x000",
+              " 0 xBA", " 0 x0g", " 0 X00", " 0 x 00", " 0 x*3", " 0 x00*0", " 0 x00*01", " 0 x00*", " 0 x00:0",
+              " 0 :a", " 0 *3", " 0 x00*65665", " 0 x00*65664 x00", " 0 :" + "0" * 8177, "0 " + p, " 0" + p,
+              "\t0 " + p, " 0\t" + p, " 0 x00\r", " 0\r", " 0 x00\x00", " 0\xa0" + p, " 0 S0 S0"]
+    texts = ["wrong_levels" + text for text in texts]
+    texts += [word + " 0 " + p for word in ("Wrong_levels", "WRONG_LEVELS", "wrong_level", "wrong_levels_", "wrong",
+                                            "wrong levels", " wrong_levels", "wronglevels")]
+    return cases + [lines.not_understood(text) for text in texts] + wrongs(0, [P])
+
+
+def hears_levels(levels, frames):
+    """Levels for a fresh receiver, which hands over these frames and no other."""
+    assert handed_over(levels) == frames
+    return lines.hear(levels)
+
+
+def one_wrong_heard():
+    """Each of the 129 levels of T and of P changed, after both previous levels: nothing is handed over."""
+    return [hears_levels(link1.with_wrong(run_of(bits_of(octets), previous), n), [])
+            for octets in (T, P) for previous in (0, 1) for n in range(129)]
+
+
+def one_wrong_in_noise():
+    """A frame with one wrong level behind random-looking levels, and a good frame, which alone is handed over."""
+    stream, cases = Stream(23), []
+    for number, n in enumerate((0, 0, 1, 127, 128, 128, *range(4, 126, 3))):
+        noise = [(0, 1, 0, 1, 2, 0, 1, 7)[stream.below(8)] for _ in range(1 + stream.below(24))]
+        spoilt = run_of(bits_of(stream.good_image() if number % 2 == 0 else HEARD[number % 8]), stream.below(2))
+        spoilt, good = link1.with_wrong(spoilt, n), stream.good_image()
+        run = noise + spoilt + levels_of(bits_of(good), spoilt[-1])
+        cases.append(hears_levels(run, [(len(run), good)]))
+    return cases
+
+
+def one_wrong_between():
+    """Three frames in turn with one wrong level; that which ends a frame and stands before the next spoils both."""
+    cases = []
+    run = run_of(bits_of(P, HEARD[4], T), 0)
+    for n in (0, 1, 9, 64, 120, 126, 127, 128, 129, 130, 137, 200, 255, 256, 257, 258, 300, 383, 384):
+        frames = [(128 * place + 129, octets) for place, octets in enumerate((P, HEARD[4], T))
+                  if not 128 * place <= n <= 128 * place + 128]
+        assert len(frames) == (1 if n in (128, 256) else 2)
+        cases += [hears_levels(levels, frames) for levels in (link1.with_wrong(run, n),
+                                                              swapped(link1.with_wrong(run, n)))]
+    return cases
+
+
+def pass_together(n, m):
+    """Two wrong levels among the same two columns of two groups turn each column twice, and no check tells it."""
+    return n % 8 == m % 8 and link1.one_wrong_by_place(n) == link1.one_wrong_by_place(m) == 5
+
+
+def two_wrong_levels():
+    """Two wrong levels of P: every two that leave a good frame, which is then another one, and some that leave none."""
+    runs = [run_of(bits_of(P), previous) for previous in (0, 1)]
+    left = [(n, m) for n in range(129) for m in range(n + 1, 129)
+            if link1.verdict(link1.decoded_image(link1.with_wrong(runs[0], n, m))) == link1.GOOD]
+    assert left == [(n, m) for n in range(129) for m in range(n + 1, 129) if pass_together(n, m)]
+    other = image(message("S4", x=387), message("Blank"))
+    cases = [hears_levels(link1.with_wrong(run, 36, 44), [(129, other)]) for run in runs]
+    cases += [lines.verdict(other), lines.open_image(other)]
+    cases += [hears_levels(link1.with_wrong(runs[0], n, m), [(129, turned(P, n, n + 1, m, m + 1))]) for n, m in left]
+    apart = [(0, 1), (0, 8), (0, 128), (1, 2), (7, 8), (8, 9), (8, 16), (9, 10), (9, 17), (15, 16), (16, 17),
+             (16, 24), (17, 18), (17, 25), (35, 44), (36, 37), (36, 43), (36, 45), (40, 41), (44, 45), (56, 64),
+             (63, 127), (64, 65), (72, 73), (73, 81), (112, 120), (119, 120), (119, 127), (120, 121), (120, 128),
+             (121, 122), (122, 127), (126, 127), (126, 128), (127, 128)]
+    stream = Stream(24)
+    while len(apart) < 65:
+        n, m = stream.below(129), stream.below(129)
+        if n < m and (n, m) not in left:
+            apart.append((n, m))
+    return cases + [hears_levels(link1.with_wrong(runs[(n + m) % 2], n, m), []) for n, m in apart]
+
+
+def swapped_midway():
+    """The wires swapped from level n of P on: one bit is turned, and a seventh bit of a data group passes."""
+    run, cases = run_of(bits_of(P), 0), []
+    for n in range(1, 129):
+        heard = [(129, turned(P, n))] if n in range(16, 121, 8) else []
+        cases.append(hears_levels(run[:n] + swapped(run[n:]), heard))
+    return cases + [lines.verdict(turned(P, 16)), lines.open_image(turned(P, 16))]
+
+
 # 01 'Messages', altitude and track number text.
 
 def altitudes():
@@ -1934,6 +2087,8 @@ GROUPS = (examples, names, pairs_closed, pairs_opened, labels_opened, whole_mess
           relays_around_steps, relays_by_lists, relay_limits, relay_edges, relay_results, relay_contents, random_relays,
           relays_of_damaged, relay_buffers, relays_without_position, relays_refused_as_opened, order_of_relaying,
           relays_of_digits, relays_and_back, relays_half_way_back,
+          one_wrong_level, one_wrong_refused, one_wrong_writings, one_wrong_heard, one_wrong_in_noise,
+          one_wrong_between, two_wrong_levels, swapped_midway,
           altitudes, text_characters, texts, other_writings, odd_numbers, odd_messages, odd_lines, last_line)
 
 

@@ -105,6 +105,13 @@ def send(previous, length, image):
     return line("send", previous, length, *octet_parts(image)), answer(result, digit_part(after))
 
 
+def wrong_levels(previous, image):
+    result, _ = link1.send(previous, image, bytes(128))
+    numbers = link1.one_wrong_verdicts(previous, image) if result == link1.GOOD else []
+    digits = "".join(str(number) for number in numbers)
+    return line("wrong_levels", previous, *octet_parts(image)), answer(result, *([digits] if digits else []))
+
+
 def heard(state, levels):
     """The answer to a run of levels: what is not silent, then the state."""
     parts = []

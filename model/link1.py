@@ -305,6 +305,37 @@ def hear(state, level):
         return state, (GOOD, 1, image_of(window))
     return state, (GOOD, 0, bytes(16))
 
+def sent_levels(previous, image):
+    """02 Item 7: a good frame as sent, with the level before it: level 0, and level n that tells frame bit n."""
+    return [previous] + list(send(previous, image, bytes(128))[1])
+
+def with_wrong(levels, *numbers):
+    """02 Item 7: the levels with those of these numbers changed."""
+    return [1 - level if n in numbers else level for n, level in enumerate(levels)]
+
+def decoded_image(levels):
+    """01 'From levels to a frame': frame bit n is one where level n differs from the level before, else zero."""
+    return image_of([None] + [1 if levels[n] != levels[n - 1] else 0 for n in range(1, 129)])
+
+def one_wrong_verdicts(previous, image):
+    """02 Item 7: the number of the verdict on what is decoded with level 0 changed, with level 1, and so on to 128."""
+    levels = sent_levels(previous, image)
+    return [verdict(decoded_image(with_wrong(levels, n)))[0] for n in range(129)]
+
+def one_wrong_by_place(n):
+    """02 Item 7 as 001 Annex A Appendix 3 paragraph 3 argues it, by the number of the changed level alone.
+
+    Errors come in pairs: bits n and n + 1 are wrong; with level 0 bit 1 alone, with level 128 bit 128 alone. Up to
+    level 8 a start bit is wrong. Behind that a mark is wrong where it is the first of the two, or the second behind
+    a 7th bit; and so is the final one, behind check bit 6 or alone. Else both are in one group: the first is a check
+    bit or one of the six that have one, and the second is in another column.
+    """
+    if n <= 8:
+        return 3
+    if n % 8 in (0, 1) or n == 127:
+        return 4
+    return 5
+
 def hear_octet(window, octet):
     """02 Item 5, the receiver fed by octets: its last 128 bits come back with the answer, and nothing is refused.
 

@@ -87,6 +87,9 @@ module _ (b c : ℕ → ℕ) (same : (n : ℕ) → 1 ≤ n → n ≤ 128 → b n
   unfolding goodFrame
   good-ext = λ i. both (start-ext i) (both (marks-ext i) (checks-ext i))
 
+  pub verdict-ext : frameVerdict b ≡ frameVerdict c
+  verdict-ext = by-tests b start-ext marks-ext checks-ext ∙ sym (by-tests c refl refl refl)
+
 -- ---- what a good frame says of single bits
 
 module _ (b : ℕ → ℕ) (good : goodFrame b ≡ true) where

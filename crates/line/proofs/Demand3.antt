@@ -47,20 +47,20 @@ abbrev pub frameIn : List ℕ → ℕ → ℕ
 frameIn bits n = getD bits (n - 1) 0
 
 module _ (before frame : List ℕ) (size : length frame ≡ 128) where
-  ends-in : (n : ℕ) → lastFrame (before ++ frame) n ≡ frameIn frame n
+  pub ends-in : (n : ℕ) → lastFrame (before ++ frame) n ≡ frameIn frame n
   ends-in n =
       let e : length (before ++ frame) - 128 + (n - 1) ≡ length before + (n - 1) = omega (arith, length-append before frame) in
       ap (λ (i : ℕ). getD (before ++ frame) i 0) e ∙ getD-append-add before frame (n - 1) 0
 
-  ends-good : goodFrame (frameIn frame) ≡ true → endsGood (before ++ frame) ≡ true
+  -- they end in a good frame exactly if this is one
+  pub ends-good : endsGood (before ++ frame) ≡ goodFrame (frameIn frame)
   unfolding endsGood
-  ends-good g =
-      ap₂ both (le-leb 128 (length (before ++ frame)) (omega (arith, length-append before frame))) (good-ext _ _ (λ n _ _. ends-in n) ∙ g)
+  ends-good = ap₂ both (le-leb 128 (length (before ++ frame)) (omega (arith, length-append before frame))) (good-ext _ _ (λ n _ _. ends-in n))
 
 pub heard-on-last-bit : (ls : List ℕ) (l : ℕ) (before frame : List ℕ) → l ≤ 1 → decoded (ls ++ l ∷ []) ≡ before ++ frame
     → length frame ≡ 128 → goodFrame (frameIn frame) ≡ true → heardOf (run ls) l ≡ handed (ls ++ l ∷ []) (octetsOf 16 (frameIn frame))
 heard-on-last-bit ls l before frame h e size g =
-    good-told ls l h (ap endsGood e ∙ ends-good before frame size g)
+    good-told ls l h (ap endsGood e ∙ ends-good before frame size ∙ g)
     ∙ ap (handed (ls ++ l ∷ [])) (octets-ext 16 _ _ (λ n _ _. ap (λ (bits : List ℕ). lastFrame bits n) e ∙ ends-in before frame size n))
 
 -- ---- two frames handed over share no bit
@@ -163,30 +163,35 @@ module _ (image : List ℕ) (previous : ℕ) (buffer : List ℕ) (sent : sendRef
   level : previous ≤ 1
   level = ltb-false 1 previous (not-true _ (passed .1 .1 .0))
 
-  good-image : goodFrame (bitAt image) ≡ true
+  pub good-image : goodFrame (bitAt image) ≡ true
   unfolding goodFrame
   good-image = let p = passed .1 .1 .1 in λ i. both (p .0 i) (both (p .1 .0 i) (p .1 .1 .0 i))
 
   -- the image's bits as a list are its frame
-  image-frame : (n : ℕ) → 1 ≤ n → n ≤ 128 → frameIn (imageBits image) n ≡ bitAt image n
+  pub image-frame : (n : ℕ) → 1 ≤ n → n ≤ 128 → frameIn (imageBits image) n ≡ bitAt image n
   image-frame n h l =
       let e : n - 1 + 1 ≡ n = omega arith in getD-tab (λ i. bitAt image (i + 1)) 128 (n - 1) (omega arith) ∙ ap (bitAt image) e
+
+  image-bits : Bits (imageBits image)
+  image-bits = bits-tab (λ i. bitAt image (i + 1)) 128 (λ i. omega (arith, bit-lt image (i + 1)))
 
   levels-sent : sendLevels image previous buffer ≡ levelsAfter previous (imageBits image)
   unfolding sendLevels
   levels-sent = given (sendRefusal image previous buffer) _ _ (ap (λ (r : Refusal). r .number) sent)
 
-  image-bits : Bits (imageBits image)
-  image-bits = bits-tab (λ i. bitAt image (i + 1)) 128 (λ i. omega (arith, bit-lt image (i + 1)))
+  -- the previous level and then those that `send` wrote are levels, and decode to the image's bits
+  pub sent-levels : Bits (previous ∷ sendLevels image previous buffer)
+  sent-levels = rw levels-sent (more level (levels-bits previous (imageBits image) level))
 
-  -- a fresh receiver given the previous level and then the levels that `send` wrote hands over the same image on the last
+  pub sent-bits : decoded (previous ∷ sendLevels image previous buffer) ≡ imageBits image
+  sent-bits = ap bitsOf (kept-all sent-levels) ∙ rw levels-sent (told-bits previous level image-bits)
+
+  -- a fresh receiver given these hands over the same image on the last
   pub sent-heard : ((k : ℕ) → getD image k 0 < 256) → (ls : List ℕ) (l : ℕ) → ls ++ l ∷ [] ≡ previous ∷ sendLevels image previous buffer
       → heardOf (run ls) l ≡ handed (ls ++ l ∷ []) image
   sent-heard octet ls l e =
-      let levels : ls ++ l ∷ [] ≡ previous ∷ levelsAfter previous (imageBits image) = e ∙ ap (λ (t : List ℕ). previous ∷ t) levels-sent in
-      let all : Bits (ls ++ l ∷ []) = rw levels (more level (levels-bits previous (imageBits image) level)) in
-      let bits : decoded (ls ++ l ∷ []) ≡ imageBits image = rw (kept-all all, levels) (told-bits previous level image-bits) in
+      let all : Bits (ls ++ l ∷ []) = rw e sent-levels in
       let good : goodFrame (frameIn (imageBits image)) ≡ true =
       good-ext _ _ image-frame ∙ good-image in
-      heard-on-last-bit ls l [] (imageBits image) (bits-last ls l all) bits (length-tab _ 128) good
+      heard-on-last-bit ls l [] (imageBits image) (bits-last ls l all) (ap decoded e ∙ sent-bits) (length-tab _ 128) good
       ∙ ap (handed (ls ++ l ∷ [])) (octets-ext 16 _ _ image-frame ∙ octets-bits image 16 size octet)

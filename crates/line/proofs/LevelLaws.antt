@@ -1,12 +1,13 @@
 -- Laws of levels and their bits. Assumes nothing.
-use mathlib.Core.Path.{_≡_, refl, ap, ap₂, _∙_}
+use mathlib.Core.Path.{_≡_, refl, sym, ap, ap₂, _∙_}
 use mathlib.Core.Bool.{Bool, true, false}
-use mathlib.Core.List.{List, [], _∷_, _++_, map}
-use Prim.Native.Nat.{ℕ, zero, suc, _-_, _≤_}
+use mathlib.Core.List.{List, [], _∷_, _++_, map, append-assoc}
+use Prim.Native.Nat.{ℕ, zero, suc, _+_, _-_, _≤_, _<_}
 use native.Mathlib.Omega.{arith}
 use borrow.Author.Tests.{le-ltb, ltb-false}
 use lib.Dec.{eqb}
-use lib.ListN.{length}
+use lib.ListN.{length, getD, set, length-append}
+use lib.Seq.{getD-append-seam, getD-append-add}
 use Rattle.bits.specs.Tests.{pick}
 use Rattle.line.specs.Levels.{refused, differ, kept, bitsAfter, bitsOf, decoded}
 use Rattle.line.specs.Hearing.{swap}
@@ -39,9 +40,29 @@ pub length-bits : (a : ℕ) (r : List ℕ) → length (bitsAfter a r) ≡ length
 length-bits a [] = refl
 length-bits a (x ∷ r) = ap suc (length-bits x r)
 
+pub length-told : (ls : List ℕ) → length (bitsOf ls) ≡ length ls - 1
+length-told [] = refl
+length-told (l ∷ ls) = length-bits l ls ∙ omega arith
+
 pub bits-bits : (a : ℕ) (r : List ℕ) → Bits (bitsAfter a r)
 bits-bits a [] = none
 bits-bits a (x ∷ r) = more (differ-le a x) (bits-bits x r)
+
+-- of levels from number 0 on, number n and the next tell the bit at index n
+pub bit-told : (ls : List ℕ) (n : ℕ) → suc n < length ls → getD (bitsOf ls) n 0 ≡ differ (getD ls n 0) (getD ls (suc n) 0)
+bit-told [] n h = absurd (omega arith)
+bit-told (a ∷ []) n h = absurd (omega arith)
+bit-told (a ∷ x ∷ r) zero h = refl
+bit-told (a ∷ x ∷ r) (suc n) h = bit-told (x ∷ r) n (omega arith)
+
+-- the bits of a run of levels that comes after another run are the last of both
+pub bits-behind : (rs ts : List ℕ) → 1 ≤ length ts → (y : List ℕ) × (bitsOf (rs ++ ts) ≡ y ++ bitsOf ts)
+bits-behind rs [] h = absurd (omega arith)
+bits-behind [] (c ∷ cs) h = ([], refl)
+bits-behind (a ∷ r) (c ∷ cs) h = (
+  bitsAfter a r ++ differ (lastOf a r) c ∷ [],
+  bits-append a r (c ∷ cs) ∙ sym (append-assoc (bitsAfter a r) (differ (lastOf a r) c ∷ []) (bitsAfter c cs)),
+)
 
 -- ---- levels that are not refused
 
@@ -68,9 +89,28 @@ pub kept-all : {ls : List ℕ} → Bits ls → kept ls ≡ ls
 kept-all none = refl
 kept-all (more {b = l} {bs = ls} h t) = rw (le-ltb 1 l h) (ap (λ (r : List ℕ). l ∷ r) (kept-all t))
 
+pub bits-at : {ls : List ℕ} → Bits ls → (n : ℕ) → getD ls n 0 ≤ 1
+bits-at none n = omega arith
+bits-at (more h t) zero = h
+bits-at (more h t) (suc n) = bits-at t n
+
+pub bits-set : {ls : List ℕ} (i v : ℕ) → v ≤ 1 → Bits ls → Bits (set ls i v)
+bits-set i v h none = none
+bits-set zero v h (more k t) = more h t
+bits-set (suc i) v h (more k t) = more k (bits-set i v h t)
+
 pub bits-last : (ls : List ℕ) (l : ℕ) → Bits (ls ++ l ∷ []) → l ≤ 1
 bits-last [] l (more h t) = h
 bits-last (x ∷ ls) l (more h t) = bits-last ls l t
+
+-- the last level of a run, which ends in levels that are 0 or 1
+pub last-le : (rs : List ℕ) {ts : List ℕ} (ls : List ℕ) (l : ℕ) → Bits ts → 1 ≤ length ts → ls ++ l ∷ [] ≡ rs ++ ts → l ≤ 1
+last-le rs {ts} ls l all some e =
+    let k = length ts - 1 in
+    let at : length ls ≡ length rs + k = omega (arith, length-append ls (l ∷ []), ap length e, length-append rs ts) in
+    let same : l ≡ getD ts k 0 =
+    sym (getD-append-seam ls l [] 0) ∙ ap₂ (λ (s : List ℕ) (n : ℕ). getD s n 0) e at ∙ getD-append-add rs ts k 0 in
+    rw same (bits-at all k)
 
 -- ---- two levels, by cases
 

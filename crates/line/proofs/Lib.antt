@@ -3,3 +3,4 @@ pub mod LevelLaws
 mod SendingLaws
 pub mod Holding
 pub mod Demand3
+pub mod OneWrongLevel

@@ -21,6 +21,7 @@ use Rattle.frame.specs.Frame.{goodFrame, verdictOf}
 use Rattle.frame.specs.Words.{imageOf}
 use Rattle.line.specs.Machine.{holdsFrame}
 use Rattle.line.specs.Sending.{sendRefusal, sendLevels}
+use Rattle.line.specs.WrongLevel.{changedAt, onTheLine, refusalAt}
 use Rattle.octets.specs.Feeding.{taken, lastOf, endBit, fedTo}
 use Rattle.capture.specs.Search.{goodAt, firstGood, searchRefusal, searchOf}
 use Rattle.units.specs.Offsets.{within, areOffsets, sumZ}
@@ -40,9 +41,9 @@ use Rattle.pair.specs.Opening.{openRefusal, openOf}
 use Rattle.pair.specs.Closing.{closeRefusal, closeImage}
 use Rattle.pair.specs.Zeroed.{zeroedImage}
 use Rattle.relay.specs.Relay.{relayRefusal, relayImage}
-use Rattle.link1.proofs.Asking.{verdict-of, open-image, kind-named, close-pair, send-after, hear-after, hear-octets, search-from, number-of, text-of, relay-by}
+use Rattle.link1.proofs.Asking.{Asked, verdict-of, open-image, kind-named, close-pair, send-after, hear-after, hear-octets, search-from, number-of, text-of, relay-by}
 use Rattle.link1.proofs.Asking.{nothing, pair, buffer, heard, heard-at, value, told, toldBit, answer, Row, _⇒_, answers, expected, track, at, octets, levels}
-use Rattle.link1.proofs.Examples.{imageT, imageN}
+use Rattle.link1.proofs.Examples.{imageT, imageN, imageP}
 
 -- ---- labels and bit places (01, 'Messages'; S.9: 02, item 1)
 
@@ -444,6 +445,59 @@ hearing =
 pub hearing-hold : answers hearing ≡ expected hearing
 unfolding answer every sumOf goodFrame holdsFrame
 hearing-hold = refl
+
+-- wrong levels (02, item 7): P sent after 0, with that level before it, as it is; with level 16 changed; with 36 and 44 changed; with all from 16 on
+-- changed, the wires swapped there
+abbrev lineP : List ℕ
+lineP = levels "000000000100001110000000011111111000000001111111100000000111111110000000011111111000000001111111100000000111111110000000011010010"
+
+abbrev lineP16 : List ℕ
+lineP16 = levels "000000000100001100000000011111111000000001111111100000000111111110000000011111111000000001111111100000000111111110000000011010010"
+
+abbrev lineP36 : List ℕ
+lineP36 = levels "000000000100001110000000011111111000100001110111100000000111111110000000011111111000000001111111100000000111111110000000011010010"
+
+abbrev lineSwapped : List ℕ
+lineSwapped = levels "000000000100001101111111100000000111111110000000011111111000000001111111100000000111111110000000011111111000000001111111100101101"
+
+-- P with its track at X = 387; and as track AA001
+abbrev imageAway : List ℕ
+imageAway = 0 ∷ 0xc4 ∷ 0x80 ∷ 0x80 ∷ 0x98 ∷ 0x98 ∷ replicate 9 0x80 ++ 0xbb ∷ []
+
+abbrev imageNext : List ℕ
+imageNext = 0 ∷ 0xc5 ∷ replicate 13 0x80 ++ 0xbb ∷ []
+
+-- the last of 129 levels, for a fresh receiver that has had the others
+abbrev hear-line : List ℕ → Asked
+hear-line line = hear-after (take 128 line) (getD line 128 0)
+
+-- one wrong level is heard as nothing; two may pass, and so may the wires swapped within a frame: another good frame is heard, and a legal pair
+abbrev pub wrongs : List Row
+wrongs =
+    (hear-line lineP ⇒ told 0 0 (heard true imageP))
+    ∷ (hear-line lineP16 ⇒ told 0 0 (heard false noOctets))
+    ∷ (hear-line lineP36 ⇒ told 0 0 (heard true imageAway))
+    ∷ (open-image imageAway ⇒ told 0 0 (pair (at (pos 387)) m.Blank))
+    ∷ (hear-line lineSwapped ⇒ told 0 0 (heard true imageNext))
+    ∷ (open-image imageNext ⇒ told 0 0 (pair (m.S4 (track 1 0 (pos 0) (pos 0))) m.Blank))
+    ∷ []
+
+pub wrongs-hold : answers wrongs ≡ expected wrongs
+unfolding answer every numOf sumOf goodFrame holdsFrame openRefusal openOf pairOf
+wrongs-hold = refl
+
+-- the levels that the definitions change are these
+pub changed-are :
+    onTheLine imageP 0 (fives 128) ∷ changedAt 16 lineP ∷ changedAt 44 (changedAt 36 lineP) ∷ [] ≡ lineP ∷ lineP16 ∷ lineP36 ∷ []
+unfolding every sumOf tab sendRefusal sendLevels
+changed-are = refl
+
+-- what is told of each of the 129 levels that is changed alone
+pub refusals-are :
+    tab refusalAt 129
+    ≡ levels "333333333455555544555555445555554455555544555555445555554455555544555555445555554455555544555555445555554455555544555555445555544"
+unfolding tab
+refusals-are = refl
 
 -- hearing by octets (02, item 5): most significant bit first; the bit from 1 to 8; where there is no frame 0 and zero octets; bits before the
 -- first octet never count

@@ -5,3 +5,4 @@ pub mod Asking
 pub mod Examples
 pub mod Facts
 pub mod OneAnswer
+pub mod TwoWrongLevels

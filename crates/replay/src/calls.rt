@@ -98,15 +98,20 @@ fn step(receiver: Receiver, i: usize, level: u8) -> Receiver {
     heard.receiver
 }
 
-// Feeds a run of levels: each answer that is not silent, then the state.
-fn feed(given: Receiver, levels: &[u8]) {
+// Feeds a run of levels: each answer that is not silent.
+fn feed_all(given: Receiver, levels: &[u8]) -> Receiver {
     let mut receiver = given;
     let mut i = 0;
     while i < levels.len() {
         receiver = step(receiver, i + 1, levels[i]);
         i += 1;
     }
-    tell_state(receiver);
+    receiver
+}
+
+// Then the state.
+fn feed(given: Receiver, levels: &[u8]) {
+    tell_state(feed_all(given, levels));
 }
 
 // Whether an answer to an octet says nothing: no frame, bit 0, and octets of zero.
@@ -202,6 +207,62 @@ fn send(line: &[u8], body: &[u8]) {
         return show::refuse();
     }
     send_into(body, numbers::u8_at(line, 1, 0), &mut levels[0..length]);
+}
+
+fn send_on(body: &[u8], previous: u8, levels: &mut [u8]) -> Refusal {
+    link1::send(body, previous, levels)
+}
+
+// The sixteen octets of a window.
+fn image_of(window: Window) -> [u8; 16] {
+    let mut image = [0u8; 16];
+    let mut older = window.older;
+    let mut newer = window.newer;
+    let mut i = 8;
+    while 0 < i {
+        i -= 1;
+        image[i] = (older % 256) as u8;
+        image[i + 8] = (newer % 256) as u8;
+        older /= 256;
+        newer /= 256;
+    }
+    image
+}
+
+// What is wrong with the bits that a fresh receiver decodes; it would tell a frame.
+fn tell_verdict(levels: &[u8]) {
+    let image = image_of(feed_all(Receiver::fresh(), levels).window);
+    show::first_number(link1::verdict(&image).number as u64);
+}
+
+fn other(level: u8) -> u8 {
+    if level == 0 { 1 } else { 0 }
+}
+
+// Each level changed in turn.
+fn tell_each(levels: [u8; 129]) {
+    let mut i = 0;
+    while i < 129 {
+        let mut changed = levels;
+        changed[i] = other(changed[i]);
+        tell_verdict(&changed);
+        i += 1;
+    }
+}
+
+// wrong_levels PREVIOUS IMAGE: the level before, and 128 levels that are sent.
+fn wrong_levels(line: &[u8], body: &[u8]) {
+    let mut levels = [0u8; 129];
+    if !numbers::is_up_to(line, 1, 255) {
+        return show::refuse();
+    }
+    levels[0] = numbers::u8_at(line, 1, 0);
+    let sent = send_on(body, levels[0], &mut levels[1..129]);
+    show::refusal(sent);
+    if sent.number == link1::SUCCESS {
+        show::text(b" ");
+        tell_each(levels);
+    }
 }
 
 fn relay_into(image: &[u8], xs: &[i32], ys: &[i32], buffer: &mut [u8]) {
@@ -448,8 +509,8 @@ fn label(line: &[u8]) {
 
 // ---- which call a line says: the words of the calls, and the place of each
 
-const CALLS: [u8; 177] =
-    *b"verdict open hear track_number search track_text send resume close relay kind_of label kind_named altitude refusal_of refusal_at refusal_inside numbers hear_octets resume_octets";
+const CALLS: [u8; 190] =
+    *b"verdict open hear track_number search track_text send resume close relay kind_of label kind_named altitude refusal_of refusal_at refusal_inside numbers hear_octets resume_octets wrong_levels";
 
 const VERDICT: usize = 0;
 
@@ -491,12 +552,15 @@ const HEAR_OCTETS: usize = 18;
 
 const RESUME_OCTETS: usize = 19;
 
+const WRONG_LEVELS: usize = 20;
+
 // The part at which a call's octets begin.
 fn octets_from(said: usize, line: &[u8]) -> usize {
     match said {
         RELAY => std::num::wrapping_add_usize(of_part(line), 1),
         SEARCH => 2,
         TRACK_TEXT => 2,
+        WRONG_LEVELS => 2,
         SEND => 3,
         RESUME => 3,
         _ => 1,
@@ -512,6 +576,7 @@ fn call_on(said: usize, line: &[u8], body: &mut [u8]) {
         SEARCH => search(line, body),
         TRACK_TEXT => track_text(line, body),
         SEND => send(line, body),
+        WRONG_LEVELS => wrong_levels(line, body),
         RESUME => resume(line, body),
         RELAY => relay(line, body),
         HEAR_OCTETS => feed_octets(OctetReceiver::fresh(), body),

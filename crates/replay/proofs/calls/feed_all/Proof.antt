@@ -1,9 +1,9 @@
--- `replay::calls::feed` is safe and ends. Assumes nothing.
+-- `replay::calls::feed_all` is safe and ends. Assumes nothing.
 use Prim.Native.Nat.{_-_, _≤_}
 use borrow.Author.Needs.{needs}
 use lib.ListN.{length}
-use Rattle.replay.proofs.calls.feed.Statement.{statement}
-use Rattle.replay.proofs.calls.feed.Tie as tie
+use Rattle.replay.proofs.calls.feed_all.Statement.{statement}
+use Rattle.replay.proofs.calls.feed_all.Tie as tie
 
 abbrev Inv-loop : tie.InvT-loop
 Inv-loop levels receiver₀ i₀ receiver i = i ≤ length levels
@@ -32,14 +32,11 @@ loop-less c = search needs
 loop-again : tie.Need-loop-again Inv-loop μ-loop
 loop-again c = search needs
 
-tell-state-requires : tie.Need-tell-state-requires Inv-loop μ-loop
-tell-state-requires c κs = search needs
-
 returns : tie.Need-returns Inv-loop μ-loop
 returns c = search needs
 
-pub feed-spec : {M : Type 1} → statement M
-feed-spec =
+pub feed-all-spec : {M : Type 1} → statement M
+feed-all-spec =
     tie.close
     (tie.spec
     Inv-loop
@@ -51,5 +48,4 @@ feed-spec =
     add-i
     loop-less
     loop-again
-    tell-state-requires
     returns)
