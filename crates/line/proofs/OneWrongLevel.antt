@@ -9,7 +9,7 @@ use borrow.Author.Tests.{le-leb, lt-leb, eq-eqb, ne-eqb, le-ltb}
 use lib.Dec.{eqb, leb}
 use lib.ListN.{length, getD, length-set}
 use lib.Seq.{getD-set-same, getD-set-other}
-use Rattle.bits.specs.Tests.{pick, both, isBetween, every}
+use Rattle.bits.specs.Tests.{pick, both, every}
 use Rattle.bits.specs.Octets.{bitAt}
 use Rattle.refusal.specs.Refusals.{numbered, success, badStart, badMark, badCheck}
 use Rattle.refusal.specs.declared.Refusal.{Refusal}
@@ -18,15 +18,25 @@ use Rattle.line.specs.Levels.{differ, kept, bitsOf, decoded}
 use Rattle.line.specs.Machine.{nothingHanded, answerWith, heardOf, run}
 use Rattle.line.specs.Hearing.{lastFrame, endsGood, swap}
 use Rattle.line.specs.Sending.{imageBits, sendRefusal}
-use Rattle.line.specs.WrongLevel.{changedAt, onTheLine, wrongBits, turnedBeside, refusalAt}
+use Rattle.line.specs.WrongLevel.{changedAt, onTheLine, wrongBits, beside, turnedBeside, refusalAt}
 use Rattle.bits.proofs.TestLaws.{never-true, clash, both-false, between, in-between, by-lt, every-fails, every-all}
-use Rattle.bits.proofs.NumberLaws.{sum-turned, length-tab}
+use Rattle.bits.proofs.NumberLaws.{sum-one-turned, length-tab}
 use Rattle.bits.proofs.OctetLaws.{bit-lt}
 use Rattle.frame.proofs.FrameLaws.{by-tests, verdict-good, verdict-size, verdict-ext, good-ext, start-zero, mark-one, final-one, column-odd}
 use Rattle.line.proofs.WindowLaws.{Bits}
 use Rattle.line.proofs.LevelLaws.{by-levels, bit-told, length-told, bits-behind, kept-append, kept-all, bits-at, bits-set, last-le}
 use Rattle.line.proofs.SendingLaws.{by-verdict}
 use Rattle.line.proofs.Demand3.{demand3, frameIn, ends-in, ends-good, good-image, image-frame, sent-levels, sent-bits}
+
+-- bits i and i + 1 are beside level i, and no others
+is-beside : (i n : ℕ) → i ≤ n → n ≤ i + 1 → beside i n ≡ true
+is-beside i n h l = between i (i + 1) n h l
+
+beside-is : (i n : ℕ) → beside i n ≡ true → (i ≤ n) × (n ≤ i + 1)
+beside-is i n e = in-between i (i + 1) n e
+
+not-beside : (i n : ℕ) → (n ≡ i → ⊥) → (n ≡ i + 1 → ⊥) → beside i n ≡ false
+not-beside i n h l = never-true _ (λ e. let p = beside-is i n e in h (omega arith))
 
 -- ---- first step: a changed level turns the two bits beside it, and no other; at either end it turns one
 
@@ -40,15 +50,21 @@ swap-le : (l : ℕ) → l ≤ 1 → swap l ≤ 1
 swap-le l h = rw (le-ltb 1 l h) (omega arith)
 
 module _ (levels : List ℕ) (all : Bits levels) (i : ℕ) where
+  level-changes : i < length levels → getD (changedAt i levels) i 0 ≡ swap (getD levels i 0)
+  level-changes there = getD-set-same levels i _ 0 there
+
+  level-stays : (m : ℕ) → (m ≡ i → ⊥) → getD (changedAt i levels) m 0 ≡ getD levels m 0
+  level-stays m d = getD-set-other levels i m _ 0 d
+
   pub changed-levels : Bits (changedAt i levels)
   changed-levels = bits-set i _ (swap-le _ (bits-at all i)) all
 
   pub changed-length : length (changedAt i levels) ≡ length levels
-  changed-length = length-set levels i (swap (getD levels i 0))
+  changed-length = length-set levels i _
 
   -- bit n is told by levels n - 1 and n
   pub bits-turned : i < length levels → (n : ℕ) → 1 ≤ n → n < length levels → frameIn (decoded (changedAt i levels)) n ≡ turnedBeside i (frameIn (decoded levels)) n
-  bits-turned there n l h = told-after ∙ go (isBetween i (i + 1) n) refl ∙ ap (λ (x : ℕ). pick (isBetween i (i + 1) n) (1 - x) x) (sym told-before)
+  bits-turned there n l h = told-after ∙ go (beside i n) refl ∙ ap (λ (x : ℕ). pick (beside i n) (1 - x) x) (sym told-before)
     where
       k : ℕ
       k = n - 1
@@ -59,32 +75,27 @@ module _ (levels : List ℕ) (all : Bits levels) (i : ℕ) where
       told-after : frameIn (decoded (changedAt i levels)) n ≡ differ (getD (changedAt i levels) k 0) (getD (changedAt i levels) (suc k) 0)
       told-after = ap (λ (ls : List ℕ). frameIn (bitsOf ls) n) (kept-all changed-levels) ∙ bit-told (changedAt i levels) k (omega (arith, changed-length))
 
-      same : (m : ℕ) → (m ≡ i → ⊥) → getD (changedAt i levels) m 0 ≡ getD levels m 0
-      same m d = getD-set-other levels i m (swap (getD levels i 0)) 0 d
+      changes : (m : ℕ) → m ≡ i → getD (changedAt i levels) m 0 ≡ swap (getD levels m 0)
+      changes m e = rw e (level-changes there)
 
-      other : (m : ℕ) → m ≡ i → getD (changedAt i levels) m 0 ≡ swap (getD levels m 0)
-      other m e = rw e (getD-set-same levels i (swap (getD levels i 0)) 0 there)
-
-      go : (t : Bool) → isBetween i (i + 1) n ≡ t → differ (getD (changedAt i levels) k 0) (getD (changedAt i levels) (suc k) 0)
+      go : (t : Bool) → beside i n ≡ t → differ (getD (changedAt i levels) k 0) (getD (changedAt i levels) (suc k) 0)
           ≡ pick t (1 - differ (getD levels k 0) (getD levels (suc k) 0)) (differ (getD levels k 0) (getD levels (suc k) 0))
       go true e =
-          let p = in-between i (i + 1) n e in
-          by-lt i n (λ lt. ap₂ differ (other k (omega arith)) (same (suc k) (λ q. omega arith)) ∙ differ-first _ _ (bits-at all k) (bits-at all (suc k)))
-          (λ le. ap₂ differ (same k (λ q. omega arith)) (other (suc k) (omega arith)) ∙ differ-second _ _ (bits-at all k) (bits-at all (suc k)))
+          let p = beside-is i n e in
+          by-lt i n (λ lt. ap₂ differ (changes k (omega arith)) (level-stays (suc k) (λ q. omega arith)) ∙ differ-first _ _ (bits-at all k) (bits-at all (suc k)))
+          (λ le. ap₂ differ (level-stays k (λ q. omega arith)) (changes (suc k) (omega arith)) ∙ differ-second _ _ (bits-at all k) (bits-at all (suc k)))
       go false e =
-          ap₂ differ (same k (λ q. clash (between i (i + 1) n (omega arith) (omega arith)) e))
-          (same (suc k) (λ q. clash (between i (i + 1) n (omega arith) (omega arith)) e))
+          ap₂ differ (level-stays k (λ q. clash (is-beside i n (omega arith) (omega arith)) e))
+          (level-stays (suc k) (λ q. clash (is-beside i n (omega arith) (omega arith)) e))
 
 -- ---- second step: two neighbouring bits of a good frame turned break the start group, a mark, the final one, or a check column
 
 module _ (b : ℕ → ℕ) (bit : (n : ℕ) → b n ≤ 1) (good : goodFrame b ≡ true) (i : ℕ) where
   turned : (n : ℕ) → i ≤ n → n ≤ i + 1 → turnedBeside i b n ≡ 1 - b n
-  turned n h l = rw (between i (i + 1) n h l)
+  turned n h l = rw (is-beside i n h l)
 
   untouched : (n : ℕ) → (n ≡ i → ⊥) → (n ≡ i + 1 → ⊥) → turnedBeside i b n ≡ b n
-  untouched n h l =
-      let e : isBetween i (i + 1) n ≡ false = never-true _ (λ t. let p = in-between i (i + 1) n t in h (omega arith)) in
-      rw e
+  untouched n h l = rw (not-beside i n h l)
 
   -- up to level 8: a zero of the start group becomes a one
   pub start-breaks : i ≤ 8 → startGood (turnedBeside i b) ≡ false
@@ -122,7 +133,7 @@ module _ (b : ℕ → ℕ) (bit : (n : ℕ) → b n ≤ 1) (good : goodFrame b �
       let at : 8 * g + 9 + (j + 1) ≡ i = omega arith in
       let one : turnedBeside i b (8 * g + 9 + (j + 1)) + b (8 * g + 9 + (j + 1)) ≡ 1 = omega (arith, turned (8 * g + 9 + (j + 1)) (omega arith) (omega arith), bit (8 * g + 9 + (j + 1))) in
       let even : (columnOf (turnedBeside i b) (j + 1) + columnOf b (j + 1)) % 2 ≡ 1 =
-      sum-turned (λ k. turnedBeside i b (8 * k + 9 + (j + 1))) (λ k. b (8 * k + 9 + (j + 1))) 15 g (omega arith) one
+      sum-one-turned (λ k. turnedBeside i b (8 * k + 9 + (j + 1))) (λ k. b (8 * k + 9 + (j + 1))) 15 g (omega arith) one
       (λ k _ d. untouched (8 * k + 9 + (j + 1)) (λ e. d (omega arith)) (λ e. omega arith)) in
       every-fails _ 6 j (omega arith) (ne-eqb (columnOf (turnedBeside i b) (j + 1) % 2) 1 (λ e. omega (arith, e, even, column-odd b good j (omega arith))))
 
@@ -139,8 +150,6 @@ module _ (b : ℕ → ℕ) (bit : (n : ℕ) → b n ≤ 1) (good : goodFrame b �
       (λ l. by-tests _ (start-holds h) (final-breaks l few) refl ∙ rw (lt-leb i 8 h, le-leb 127 i l)))
       (λ h. by-tests _ (start-breaks h) refl refl ∙ rw (le-leb i 8 h))
 
--- ---- THE THEOREM
-
 -- what is told is never success
 never-success : (i : ℕ) → eqb (refusalAt i) success ≡ false
 never-success i = go (leb i 8) (leb 127 i) (leb (i % 8) 1)
@@ -151,11 +160,8 @@ never-success i = go (leb i 8) (leb 127 i) (leb (i % 8) 1)
     go false false true = refl
     go false false false = refl
 
--- 129 levels decode to 128 bits
-pub whole : {levels : List ℕ} → Bits levels → length levels ≡ 129 → length (decoded levels) ≡ 128
-whole {levels} all many = ap (λ (ls : List ℕ). length (bitsOf ls)) (kept-all all) ∙ omega (arith, length-told levels)
+-- ---- what is sent: a good image after either level, into a buffer of 128 octets
 
--- a good image, sent after either level into a buffer of 128 octets
 module _ (image : List ℕ) (good : verdictOf image ≡ numbered success) (previous : ℕ) (level : previous ≤ 1) (buffer : List ℕ) (room : length buffer ≡ 128) where
   sent : sendRefusal image previous buffer ≡ numbered success
   sent = by-verdict image previous buffer (verdict-size image (ap (λ (r : Refusal). r .number) good)) room level ∙ good
@@ -163,13 +169,13 @@ module _ (image : List ℕ) (good : verdictOf image ≡ numbered success) (previ
   pub image-good : goodFrame (bitAt image) ≡ true
   image-good = good-image image previous buffer sent
 
-  pub line-levels : Bits (onTheLine image previous buffer)
+  line-levels : Bits (onTheLine image previous buffer)
   line-levels = sent-levels image previous buffer sent
 
   line-bits : decoded (onTheLine image previous buffer) ≡ imageBits image
   line-bits = sent-bits image previous buffer sent
 
-  pub line-length : length (onTheLine image previous buffer) ≡ 129
+  line-length : length (onTheLine image previous buffer) ≡ 129
   line-length =
       omega (
         arith,
@@ -177,52 +183,78 @@ module _ (image : List ℕ) (good : verdictOf image ≡ numbered success) (previ
         length-told (onTheLine image previous buffer),
       )
 
-  pub line-frame : (n : ℕ) → 1 ≤ n → n ≤ 128 → frameIn (decoded (onTheLine image previous buffer)) n ≡ bitAt image n
+  line-frame : (n : ℕ) → 1 ≤ n → n ≤ 128 → frameIn (decoded (onTheLine image previous buffer)) n ≡ bitAt image n
   line-frame n h l = ap (λ (bits : List ℕ). frameIn bits n) line-bits ∙ image-frame image previous buffer sent n h l
 
-  -- with level i, one of 0 to 128, changed
-  module _ (i : ℕ) (few : i ≤ 128) where
-    wrong-levels : Bits (changedAt i (onTheLine image previous buffer))
-    wrong-levels = changed-levels (onTheLine image previous buffer) line-levels i
+-- 129 levels decode to 128 bits
+pub decoded-length : {levels : List ℕ} → Bits levels → length levels ≡ 129 → length (decoded levels) ≡ 128
+decoded-length {levels} all many = ap (λ (ls : List ℕ). length (bitsOf ls)) (kept-all all) ∙ omega (arith, length-told levels)
 
-    many : length (changedAt i (onTheLine image previous buffer)) ≡ 129
-    many = changed-length (onTheLine image previous buffer) line-levels i ∙ line-length
+-- ---- and one of its levels changed
 
-    -- they decode to 128 bits: the image's, with those beside the level turned
-    pub wrong-length : length (wrongBits image previous buffer i) ≡ 128
-    wrong-length = whole wrong-levels many
+module _ (image : List ℕ) (good : verdictOf image ≡ numbered success) (previous : ℕ) (level : previous ≤ 1) (buffer : List ℕ) (room : length buffer ≡ 128)
+    (i : ℕ) (few : i ≤ 128) where
+  levels : Bits (onTheLine image previous buffer)
+  levels = line-levels image good previous level buffer room
 
-    pub wrong-bits : (n : ℕ) → 1 ≤ n → n ≤ 128 → lastFrame (wrongBits image previous buffer i) n ≡ turnedBeside i (bitAt image) n
-    wrong-bits n h l =
-        ends-in [] (wrongBits image previous buffer i) wrong-length n
-        ∙ bits-turned (onTheLine image previous buffer) line-levels i (omega (arith, line-length)) n h (omega (arith, line-length))
-        ∙ ap (λ (x : ℕ). pick (isBetween i (i + 1) n) (1 - x) x) (line-frame n h l)
+  size : length (onTheLine image previous buffer) ≡ 129
+  size = line-length image good previous level buffer room
 
-    -- what is wrong with them
-    pub which-refusal : frameVerdict (lastFrame (wrongBits image previous buffer i)) ≡ numbered (refusalAt i)
-    which-refusal = verdict-ext _ _ wrong-bits ∙ neighbours-break (bitAt image) (λ n. omega (arith, bit-lt image n)) image-good i few
+  pub wrong-levels : Bits (changedAt i (onTheLine image previous buffer))
+  wrong-levels = changed-levels (onTheLine image previous buffer) levels i
 
-    -- they are not a good frame
-    pub one-wrong-level : goodFrame (lastFrame (wrongBits image previous buffer i)) ≡ false
-    one-wrong-level =
-        sym (verdict-good (lastFrame (wrongBits image previous buffer i))) ∙ ap (λ (r : Refusal). eqb (r .number) success) which-refusal ∙ never-success i
+  pub wrong-size : length (changedAt i (onTheLine image previous buffer)) ≡ 129
+  wrong-size = changed-length (onTheLine image previous buffer) levels i ∙ size
 
-    -- ---- what it means for the receiver: whatever it was fed before, it hands over nothing on the last of these levels
-    pub nothing-heard : (before ls : List ℕ) (l : ℕ) → ls ++ l ∷ [] ≡ before ++ changedAt i (onTheLine image previous buffer)
-        → heardOf (run ls) l ≡ answerWith (run (ls ++ l ∷ [])) success nothingHanded
-    nothing-heard before ls l e =
-        let line = changedAt i (onTheLine image previous buffer) in
-        let some : 1 ≤ length line = omega (arith, many) in
-        let y = bits-behind (kept before) line some in
-        let decodes : decoded (ls ++ l ∷ []) ≡ y .0 ++ wrongBits image previous buffer i =
-        ap decoded e ∙ ap bitsOf (kept-append before line ∙ ap (λ (t : List ℕ). kept before ++ t) (kept-all wrong-levels)) ∙ y .1
-        ∙ ap (λ (t : List ℕ). y .0 ++ bitsOf t) (sym (kept-all wrong-levels)) in
-        let silent : endsGood (decoded (ls ++ l ∷ [])) ≡ false =
-        ap endsGood decodes ∙ ends-good (y .0) (wrongBits image previous buffer i) wrong-length
-        ∙ good-ext _ _ (λ n _ _. sym (ends-in [] (wrongBits image previous buffer i) wrong-length n)) ∙ one-wrong-level in
-        demand3 ls l ∙ rw (le-ltb 1 l (last-le before ls l wrong-levels some e), silent)
+  -- there are 128 bits: the image's, with those beside the level turned
+  pub wrong-length : length (wrongBits image previous buffer i) ≡ 128
+  wrong-length = decoded-length wrong-levels wrong-size
 
-    -- so a fresh receiver that is fed these alone
-    pub fresh-hears-nothing : (ls : List ℕ) (l : ℕ) → ls ++ l ∷ [] ≡ changedAt i (onTheLine image previous buffer)
-        → heardOf (run ls) l ≡ answerWith (run (ls ++ l ∷ [])) success nothingHanded
-    fresh-hears-nothing = nothing-heard []
+  pub wrong-bits : (n : ℕ) → 1 ≤ n → n ≤ 128 → lastFrame (wrongBits image previous buffer i) n ≡ turnedBeside i (bitAt image) n
+  wrong-bits n h l =
+      ends-in [] (wrongBits image previous buffer i) wrong-length n
+      ∙ bits-turned (onTheLine image previous buffer) levels i (omega (arith, size)) n h (omega (arith, size))
+      ∙ ap (λ (x : ℕ). pick (beside i n) (1 - x) x) (line-frame image good previous level buffer room n h l)
+
+  -- the verdict on them
+  pub which-refusal : frameVerdict (lastFrame (wrongBits image previous buffer i)) ≡ numbered (refusalAt i)
+  which-refusal =
+      verdict-ext _ _ wrong-bits
+      ∙ neighbours-break (bitAt image) (λ n. omega (arith, bit-lt image n)) (image-good image good previous level buffer room) i few
+
+-- ---- THE THEOREM: of any good image that `send` writes after either level, any one of the 129 levels changed, the 128 bits are not a good frame
+
+pub one-wrong-level : (image : List ℕ) → verdictOf image ≡ numbered success → (previous : ℕ) → previous ≤ 1 → (buffer : List ℕ) → length buffer ≡ 128
+    → (i : ℕ) → i ≤ 128 → (length (wrongBits image previous buffer i) ≡ 128) × (goodFrame (lastFrame (wrongBits image previous buffer i)) ≡ false)
+one-wrong-level image good previous level buffer room i few = (
+  wrong-length image good previous level buffer room i few,
+  sym (verdict-good (lastFrame (wrongBits image previous buffer i)))
+      ∙ ap (λ (r : Refusal). eqb (r .number) success) (which-refusal image good previous level buffer room i few)
+      ∙ never-success i,
+)
+
+-- ---- what it means for a receiver
+
+module _ (image : List ℕ) (good : verdictOf image ≡ numbered success) (previous : ℕ) (level : previous ≤ 1) (buffer : List ℕ) (room : length buffer ≡ 128)
+    (i : ℕ) (few : i ≤ 128) where
+  -- whatever it was fed before, it hands over nothing on the last of these levels
+  pub nothing-heard : (before ls : List ℕ) (l : ℕ) → ls ++ l ∷ [] ≡ before ++ changedAt i (onTheLine image previous buffer)
+      → heardOf (run ls) l ≡ answerWith (run (ls ++ l ∷ [])) success nothingHanded
+  nothing-heard before ls l e =
+      let wrong = changedAt i (onTheLine image previous buffer) in
+      let all : Bits wrong = wrong-levels image good previous level buffer room i few in
+      let some : 1 ≤ length wrong = omega (arith, wrong-size image good previous level buffer room i few) in
+      let y = bits-behind (kept before) wrong some in
+      let decodes : decoded (ls ++ l ∷ []) ≡ y .0 ++ decoded wrong =
+      ap decoded e ∙ ap bitsOf (kept-append before wrong ∙ ap (λ (t : List ℕ). kept before ++ t) (kept-all all)) ∙ y .1
+      ∙ ap (λ (t : List ℕ). y .0 ++ bitsOf t) (sym (kept-all all)) in
+      let theorem = one-wrong-level image good previous level buffer room i few in
+      let silent : endsGood (decoded (ls ++ l ∷ [])) ≡ false =
+      ap endsGood decodes ∙ ends-good (y .0) (decoded wrong) (theorem .0)
+      ∙ good-ext _ _ (λ n _ _. sym (ends-in [] (decoded wrong) (theorem .0) n)) ∙ theorem .1 in
+      demand3 ls l ∙ rw (le-ltb 1 l (last-le before ls l all some e), silent)
+
+  -- so a fresh receiver that is fed these alone
+  pub fresh-hears-nothing : (ls : List ℕ) (l : ℕ) → ls ++ l ∷ [] ≡ changedAt i (onTheLine image previous buffer)
+      → heardOf (run ls) l ≡ answerWith (run (ls ++ l ∷ [])) success nothingHanded
+  fresh-hears-nothing = nothing-heard []

@@ -5,22 +5,22 @@ use mathlib.Core.Bool.{Bool, true, false, not}
 use mathlib.Core.List.{List, []}
 use Prim.Native.Nat.{ℕ, zero, suc, _+_, _-_, _*_, _%_, _≤_, _<_}
 use native.Mathlib.Omega.{arith}
-use borrow.Author.Tests.{eq-eqb, ne-eqb, lt-ltb}
+use borrow.Author.Tests.{lt-ltb}
 use lib.Dec.{eqb, ltb}
 use lib.ListN.{length}
-use Rattle.bits.specs.Tests.{pick, both, isBetween, every}
+use Rattle.bits.specs.Tests.{pick, both, every}
 use Rattle.bits.specs.Numbers.{sumOf}
 use Rattle.bits.specs.Octets.{bitAt}
 use Rattle.refusal.specs.Refusals.{numbered, success}
 use Rattle.frame.specs.Frame.{startGood, marksGood, columnOf, checksGood, goodFrame, verdictOf}
 use Rattle.line.specs.Hearing.{lastFrame}
-use Rattle.line.specs.WrongLevel.{changedAt, onTheLine, twoWrongBits, turnedBeside, passTogether}
+use Rattle.line.specs.WrongLevel.{changedAt, onTheLine, wrongBits, twoWrongBits, beside, turnedBeside, passTogether}
 use Rattle.bits.proofs.TestLaws.{every-ext, every-at}
 use Rattle.bits.proofs.OctetLaws.{bit-lt}
 use Rattle.frame.proofs.FrameLaws.{good-ext, start-zero, mark-one, final-one, column-odd}
 use Rattle.line.proofs.WindowLaws.{Bits}
 use Rattle.line.proofs.Demand3.{ends-in}
-use Rattle.line.proofs.OneWrongLevel.{changed-levels, changed-length, bits-turned, whole, image-good, line-levels, line-length, line-frame}
+use Rattle.line.proofs.OneWrongLevel.{changed-levels, changed-length, bits-turned, decoded-length, image-good, wrong-levels, wrong-size, wrong-length, wrong-bits}
 
 -- ---- what is noticed depends on which bits are turned, and not on the frame
 
@@ -28,24 +28,24 @@ use Rattle.line.proofs.OneWrongLevel.{changed-levels, changed-length, bits-turn
 abbrev turned : (ℕ → Bool) → (ℕ → ℕ) → ℕ → ℕ
 turned d b n = pick (d n) (1 - b n) (b n)
 
--- a one for each bit turned
-abbrev mark : (ℕ → Bool) → ℕ → ℕ
-mark d n = pick (d n) 1 0
+-- a one for each of them
+abbrev oneFor : (ℕ → Bool) → ℕ → ℕ
+oneFor d n = pick (d n) 1 0
 
 -- no bit of the start group, no mark and not the final one are among them, and of each check column an even number
 abbrev unnoticed : (ℕ → Bool) → Bool
 unnoticed d =
     both (every (λ i. not (d (i + 1))) 8)
-    (both (both (every (λ g. not (d (8 * g + 9))) 15) (not (d 128))) (every (λ i. eqb (columnOf (mark d) (i + 1) % 2) 0) 6))
+    (both (both (every (λ g. not (d (8 * g + 9))) 15) (not (d 128))) (every (λ i. eqb (columnOf (oneFor d) (i + 1) % 2) 0) 6))
 
--- a sum of bits some of which are turned has changed by an odd number if an odd number of them was turned
-sum-marked : (d : ℕ → Bool) (f : ℕ → ℕ) → ((i : ℕ) → f i ≤ 1) → (n : ℕ) → (sumOf (turned d f) n + sumOf f n) % 2 ≡ sumOf (mark d) n % 2
+-- a sum of bits changes by an odd number where an odd number of the bits is turned
+sum-turned : (d : ℕ → Bool) (f : ℕ → ℕ) → ((i : ℕ) → f i ≤ 1) → (n : ℕ) → (sumOf (turned d f) n + sumOf f n) % 2 ≡ sumOf (oneFor d) n % 2
 unfolding sumOf
-sum-marked d f small zero = refl
-sum-marked d f small (suc n) = go (d n) (sum-marked d f small n)
+sum-turned d f small zero = refl
+sum-turned d f small (suc n) = go (d n) (sum-turned d f small n)
   where
-    go : (t : Bool) → (sumOf (turned d f) n + sumOf f n) % 2 ≡ sumOf (mark d) n % 2
-        → (pick t (1 - f n) (f n) + sumOf (turned d f) n + (f n + sumOf f n)) % 2 ≡ (pick t 1 0 + sumOf (mark d) n) % 2
+    go : (t : Bool) → (sumOf (turned d f) n + sumOf f n) % 2 ≡ sumOf (oneFor d) n % 2
+        → (pick t (1 - f n) (f n) + sumOf (turned d f) n + (f n + sumOf f n)) % 2 ≡ (pick t 1 0 + sumOf (oneFor d) n) % 2
     go true e = omega (arith, small n)
     go false e = omega arith
 
@@ -64,13 +64,13 @@ module _ (d : ℕ → Bool) (b : ℕ → ℕ) (small : (n : ℕ) → b n ≤ 1) 
       go true = refl
       go false = refl
 
-  column-seen : (i : ℕ) → i < 6 → eqb (columnOf (turned d b) (i + 1) % 2) 1 ≡ eqb (columnOf (mark d) (i + 1) % 2) 0
+  column-seen : (i : ℕ) → i < 6 → eqb (columnOf (turned d b) (i + 1) % 2) 1 ≡ eqb (columnOf (oneFor d) (i + 1) % 2) 0
   column-seen i h =
-      let p : (columnOf (turned d b) (i + 1) + columnOf b (i + 1)) % 2 ≡ columnOf (mark d) (i + 1) % 2 =
-      sum-marked (λ g. d (8 * g + 9 + (i + 1))) (λ g. b (8 * g + 9 + (i + 1))) (λ g. small (8 * g + 9 + (i + 1))) 15 in
+      let p : (columnOf (turned d b) (i + 1) + columnOf b (i + 1)) % 2 ≡ columnOf (oneFor d) (i + 1) % 2 =
+      sum-turned (λ g. d (8 * g + 9 + (i + 1))) (λ g. b (8 * g + 9 + (i + 1))) (λ g. small (8 * g + 9 + (i + 1))) 15 in
       let o = column-odd b good i h in
-      let e : columnOf (turned d b) (i + 1) % 2 ≡ 1 - columnOf (mark d) (i + 1) % 2 = omega arith in
-      rw e (go (columnOf (mark d) (i + 1) % 2) (omega arith))
+      let e : columnOf (turned d b) (i + 1) % 2 ≡ 1 - columnOf (oneFor d) (i + 1) % 2 = omega arith in
+      rw e (go (columnOf (oneFor d) (i + 1) % 2) (omega arith))
     where
       go : (n : ℕ) → n ≤ 1 → eqb (1 - n) 1 ≡ eqb n 0
       go zero h = refl
@@ -83,16 +83,16 @@ module _ (d : ℕ → Bool) (b : ℕ → ℕ) (small : (n : ℕ) → b n ≤ 1) 
       let start : startGood (turned d b) ≡ every (λ i. not (d (i + 1))) 8 = every-ext _ _ 8 (λ i h. zero-seen (i + 1) (start-zero b good i h)) in
       let marks : marksGood (turned d b) ≡ both (every (λ g. not (d (8 * g + 9))) 15) (not (d 128)) =
       ap₂ both (every-ext _ _ 15 (λ g h. one-seen (8 * g + 9) (mark-one b good g h))) (one-seen 128 (final-one b good)) in
-      let checks : checksGood (turned d b) ≡ every (λ i. eqb (columnOf (mark d) (i + 1) % 2) 0) 6 = every-ext _ _ 6 column-seen in
+      let checks : checksGood (turned d b) ≡ every (λ i. eqb (columnOf (oneFor d) (i + 1) % 2) 0) 6 = every-ext _ _ 6 column-seen in
       λ i. both (start i) (both (marks i) (checks i))
 
 -- ---- two changed levels: the bits beside one of them alone are turned
 
 abbrev besideOne : ℕ → ℕ → ℕ → Bool
-besideOne i k n = pick (isBetween i (i + 1) n) (not (isBetween k (k + 1) n)) (isBetween k (k + 1) n)
+besideOne i k n = pick (beside i n) (not (beside k n)) (beside k n)
 
 beside-one : (i k : ℕ) (b : ℕ → ℕ) (n : ℕ) → b n ≤ 1 → turnedBeside k (turnedBeside i b) n ≡ turned (besideOne i k) b n
-beside-one i k b n small = go (isBetween i (i + 1) n) (isBetween k (k + 1) n)
+beside-one i k b n small = go (beside i n) (beside k n)
   where
     go : (s t : Bool) → pick t (1 - pick s (1 - b n) (b n)) (pick s (1 - b n) (b n)) ≡ pick (pick s (not t) t) (1 - b n) (b n)
     go true true = omega arith
@@ -132,31 +132,27 @@ counted = refl
 
 module _ (image : List ℕ) (good : verdictOf image ≡ numbered success) (previous : ℕ) (level : previous ≤ 1) (buffer : List ℕ) (room : length buffer ≡ 128)
     (i k : ℕ) (order : i < k) (few : k ≤ 128) where
-  levels : Bits (onTheLine image previous buffer)
-  levels = line-levels image good previous level buffer room
-
-  size : length (onTheLine image previous buffer) ≡ 129
-  size = line-length image good previous level buffer room
+  first : i ≤ 128
+  first = omega arith
 
   one-levels : Bits (changedAt i (onTheLine image previous buffer))
-  one-levels = changed-levels (onTheLine image previous buffer) levels i
+  one-levels = wrong-levels image good previous level buffer room i first
 
   one-size : length (changedAt i (onTheLine image previous buffer)) ≡ 129
-  one-size = changed-length (onTheLine image previous buffer) levels i ∙ size
+  one-size = wrong-size image good previous level buffer room i first
 
   pub two-length : length (twoWrongBits image previous buffer i k) ≡ 128
   two-length =
-      whole (changed-levels (changedAt i (onTheLine image previous buffer)) one-levels k)
+      decoded-length (changed-levels (changedAt i (onTheLine image previous buffer)) one-levels k)
       (changed-length (changedAt i (onTheLine image previous buffer)) one-levels k ∙ one-size)
 
   pub two-bits : (n : ℕ) → 1 ≤ n → n ≤ 128 → lastFrame (twoWrongBits image previous buffer i k) n ≡ turnedBeside k (turnedBeside i (bitAt image)) n
   two-bits n h l =
-      let turn : ℕ → ℕ → ℕ = λ m x. pick (isBetween m (m + 1) n) (1 - x) x in
       ends-in [] (twoWrongBits image previous buffer i k) two-length n
       ∙ bits-turned (changedAt i (onTheLine image previous buffer)) one-levels k (omega (arith, one-size)) n h (omega (arith, one-size))
-      ∙ ap (turn k)
-      (bits-turned (onTheLine image previous buffer) levels i (omega (arith, size)) n h (omega (arith, size))
-      ∙ ap (turn i) (line-frame image good previous level buffer room n h l))
+      ∙ ap (λ (x : ℕ). pick (beside k n) (1 - x) x)
+      (sym (ends-in [] (wrongBits image previous buffer i) (wrong-length image good previous level buffer room i first) n)
+      ∙ wrong-bits image good previous level buffer room i first n h l)
 
   pub two-wrong-levels : goodFrame (lastFrame (twoWrongBits image previous buffer i k)) ≡ passTogether i k
   two-wrong-levels =

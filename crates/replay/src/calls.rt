@@ -98,7 +98,7 @@ fn step(receiver: Receiver, i: usize, level: u8) -> Receiver {
     heard.receiver
 }
 
-// Feeds a run of levels: each answer that is not silent.
+// Feeds a run of levels, and tells each answer that is not silent.
 fn feed_all(given: Receiver, levels: &[u8]) -> Receiver {
     let mut receiver = given;
     let mut i = 0;
@@ -109,7 +109,7 @@ fn feed_all(given: Receiver, levels: &[u8]) -> Receiver {
     receiver
 }
 
-// Then the state.
+// Tells the state as well.
 fn feed(given: Receiver, levels: &[u8]) {
     tell_state(feed_all(given, levels));
 }
@@ -229,7 +229,7 @@ fn image_of(window: Window) -> [u8; 16] {
     image
 }
 
-// What is wrong with the bits that a fresh receiver decodes; it would tell a frame.
+// The verdict on the last 128 bits that a fresh receiver decodes.
 fn tell_verdict(levels: &[u8]) {
     let image = image_of(feed_all(Receiver::fresh(), levels).window);
     show::first_number(link1::verdict(&image).number as u64);
@@ -239,7 +239,7 @@ fn other(level: u8) -> u8 {
     if level == 0 { 1 } else { 0 }
 }
 
-// Each level changed in turn.
+// That verdict with each level changed in turn.
 fn tell_each(levels: [u8; 129]) {
     let mut i = 0;
     while i < 129 {
@@ -250,7 +250,7 @@ fn tell_each(levels: [u8; 129]) {
     }
 }
 
-// wrong_levels PREVIOUS IMAGE: the level before, and 128 levels that are sent.
+// wrong_levels PREVIOUS IMAGE: 129 levels, the one before the frame and those that are sent.
 fn wrong_levels(line: &[u8], body: &[u8]) {
     let mut levels = [0u8; 129];
     if !numbers::is_up_to(line, 1, 255) {
