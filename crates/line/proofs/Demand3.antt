@@ -14,7 +14,7 @@ use Rattle.refusal.specs.Refusals.{numbered, success}
 use Rattle.refusal.specs.declared.Refusal.{Refusal}
 use Rattle.frame.specs.Frame.{goodFrame}
 use Rattle.line.specs.Levels.{refused, kept, bitsAfter, bitsOf, decoded}
-use Rattle.line.specs.Machine.{refusedBy, heardOf, run}
+use Rattle.line.specs.Machine.{nothingHanded, answerWith, refusedBy, heardOf, run}
 use Rattle.line.specs.Hearing.{lastFrame, endsGood, toldOf, told, swap}
 use Rattle.line.specs.Sending.{levelsAfter, imageBits, sendChecks, sendRefusal, sendLevels}
 use Rattle.line.specs.declared.Heard.{Heard}
@@ -53,7 +53,7 @@ module _ (before frame : List ℕ) (size : length frame ≡ 128) where
       ap (λ (i : ℕ). getD (before ++ frame) i 0) e ∙ getD-append-add before frame (n - 1) 0
 
   -- they end in a good frame exactly if this is one
-  pub ends-good : endsGood (before ++ frame) ≡ goodFrame (frameIn frame)
+  ends-good : endsGood (before ++ frame) ≡ goodFrame (frameIn frame)
   unfolding endsGood
   ends-good = ap₂ both (le-leb 128 (length (before ++ frame)) (omega (arith, length-append before frame))) (good-ext _ _ (λ n _ _. ends-in n))
 
@@ -62,6 +62,11 @@ pub heard-on-last-bit : (ls : List ℕ) (l : ℕ) (before frame : List ℕ) → 
 heard-on-last-bit ls l before frame h e size g =
     good-told ls l h (ap endsGood e ∙ ends-good before frame size ∙ g)
     ∙ ap (handed (ls ++ l ∷ [])) (octets-ext 16 _ _ (λ n _ _. ap (λ (bits : List ℕ). lastFrame bits n) e ∙ ends-in before frame size n))
+
+-- and where the last 128 bits are not a good frame, nothing is handed over
+pub silent-on-last-bit : (ls : List ℕ) (l : ℕ) (before frame : List ℕ) → l ≤ 1 → decoded (ls ++ l ∷ []) ≡ before ++ frame
+    → length frame ≡ 128 → goodFrame (frameIn frame) ≡ false → heardOf (run ls) l ≡ answerWith (run (ls ++ l ∷ [])) success nothingHanded
+silent-on-last-bit ls l before frame h e size g = demand3 ls l ∙ rw (le-ltb 1 l h, ap endsGood e ∙ ends-good before frame size ∙ g)
 
 -- ---- two frames handed over share no bit
 
@@ -172,12 +177,12 @@ module _ (image : List ℕ) (previous : ℕ) (buffer : List ℕ) (sent : sendRef
   image-frame n h l =
       let e : n - 1 + 1 ≡ n = omega arith in getD-tab (λ i. bitAt image (i + 1)) 128 (n - 1) (omega arith) ∙ ap (bitAt image) e
 
-  image-bits : Bits (imageBits image)
-  image-bits = bits-tab (λ i. bitAt image (i + 1)) 128 (λ i. omega (arith, bit-lt image (i + 1)))
-
   levels-sent : sendLevels image previous buffer ≡ levelsAfter previous (imageBits image)
   unfolding sendLevels
   levels-sent = given (sendRefusal image previous buffer) _ _ (ap (λ (r : Refusal). r .number) sent)
+
+  image-bits : Bits (imageBits image)
+  image-bits = bits-tab (λ i. bitAt image (i + 1)) 128 (λ i. omega (arith, bit-lt image (i + 1)))
 
   -- the previous level and then those that `send` wrote are levels, and decode to the image's bits
   pub sent-levels : Bits (previous ∷ sendLevels image previous buffer)

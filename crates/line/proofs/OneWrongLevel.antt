@@ -16,7 +16,7 @@ use Rattle.refusal.specs.declared.Refusal.{Refusal}
 use Rattle.frame.specs.Frame.{startGood, marksGood, columnOf, checksGood, goodFrame, frameVerdict, verdictOf}
 use Rattle.line.specs.Levels.{differ, kept, bitsOf, decoded}
 use Rattle.line.specs.Machine.{nothingHanded, answerWith, heardOf, run}
-use Rattle.line.specs.Hearing.{lastFrame, endsGood, swap}
+use Rattle.line.specs.Hearing.{lastFrame, swap}
 use Rattle.line.specs.Sending.{imageBits, sendRefusal}
 use Rattle.line.specs.WrongLevel.{changedAt, onTheLine, wrongBits, beside, turnedBeside, refusalAt}
 use Rattle.bits.proofs.TestLaws.{never-true, clash, both-false, between, in-between, by-lt, every-fails, every-all}
@@ -26,7 +26,7 @@ use Rattle.frame.proofs.FrameLaws.{by-tests, verdict-good, verdict-size, verdic
 use Rattle.line.proofs.WindowLaws.{Bits}
 use Rattle.line.proofs.LevelLaws.{by-levels, bit-told, length-told, bits-behind, kept-append, kept-all, bits-at, bits-set, last-le}
 use Rattle.line.proofs.SendingLaws.{by-verdict}
-use Rattle.line.proofs.Demand3.{demand3, frameIn, ends-in, ends-good, good-image, image-frame, sent-levels, sent-bits}
+use Rattle.line.proofs.Demand3.{frameIn, ends-in, silent-on-last-bit, good-image, image-frame, sent-levels, sent-bits}
 
 -- bits i and i + 1 are beside level i, and no others
 is-beside : (i n : ℕ) → i ≤ n → n ≤ i + 1 → beside i n ≡ true
@@ -160,7 +160,11 @@ never-success i = go (leb i 8) (leb 127 i) (leb (i % 8) 1)
     go false false true = refl
     go false false false = refl
 
--- ---- what is sent: a good image after either level, into a buffer of 128 octets
+-- 129 levels decode to 128 bits
+pub decoded-length : {levels : List ℕ} → Bits levels → length levels ≡ 129 → length (decoded levels) ≡ 128
+decoded-length {levels} all many = ap (λ (ls : List ℕ). length (bitsOf ls)) (kept-all all) ∙ omega (arith, length-told levels)
+
+-- ---- the two together: a good image, sent after either level into a buffer of 128 octets
 
 module _ (image : List ℕ) (good : verdictOf image ≡ numbered success) (previous : ℕ) (level : previous ≤ 1) (buffer : List ℕ) (room : length buffer ≡ 128) where
   sent : sendRefusal image previous buffer ≡ numbered success
@@ -169,58 +173,36 @@ module _ (image : List ℕ) (good : verdictOf image ≡ numbered success) (previ
   pub image-good : goodFrame (bitAt image) ≡ true
   image-good = good-image image previous buffer sent
 
-  line-levels : Bits (onTheLine image previous buffer)
-  line-levels = sent-levels image previous buffer sent
-
-  line-bits : decoded (onTheLine image previous buffer) ≡ imageBits image
-  line-bits = sent-bits image previous buffer sent
-
-  line-length : length (onTheLine image previous buffer) ≡ 129
-  line-length =
-      omega (
-        arith,
-        ap length (sym (ap bitsOf (kept-all line-levels)) ∙ line-bits) ∙ length-tab _ 128,
-        length-told (onTheLine image previous buffer),
-      )
-
-  line-frame : (n : ℕ) → 1 ≤ n → n ≤ 128 → frameIn (decoded (onTheLine image previous buffer)) n ≡ bitAt image n
-  line-frame n h l = ap (λ (bits : List ℕ). frameIn bits n) line-bits ∙ image-frame image previous buffer sent n h l
-
--- 129 levels decode to 128 bits
-pub decoded-length : {levels : List ℕ} → Bits levels → length levels ≡ 129 → length (decoded levels) ≡ 128
-decoded-length {levels} all many = ap (λ (ls : List ℕ). length (bitsOf ls)) (kept-all all) ∙ omega (arith, length-told levels)
-
--- ---- and one of its levels changed
-
-module _ (image : List ℕ) (good : verdictOf image ≡ numbered success) (previous : ℕ) (level : previous ≤ 1) (buffer : List ℕ) (room : length buffer ≡ 128)
-    (i : ℕ) (few : i ≤ 128) where
   levels : Bits (onTheLine image previous buffer)
-  levels = line-levels image good previous level buffer room
+  levels = sent-levels image previous buffer sent
+
+  bits : decoded (onTheLine image previous buffer) ≡ imageBits image
+  bits = sent-bits image previous buffer sent
 
   size : length (onTheLine image previous buffer) ≡ 129
-  size = line-length image good previous level buffer room
+  size = omega (arith, ap length (sym (ap bitsOf (kept-all levels)) ∙ bits) ∙ length-tab _ 128, length-told (onTheLine image previous buffer))
 
-  pub wrong-levels : Bits (changedAt i (onTheLine image previous buffer))
-  wrong-levels = changed-levels (onTheLine image previous buffer) levels i
+  -- level i, one of 0 to 128, is changed
+  module _ (i : ℕ) (few : i ≤ 128) where
+    pub wrong-levels : Bits (changedAt i (onTheLine image previous buffer))
+    wrong-levels = changed-levels (onTheLine image previous buffer) levels i
 
-  pub wrong-size : length (changedAt i (onTheLine image previous buffer)) ≡ 129
-  wrong-size = changed-length (onTheLine image previous buffer) levels i ∙ size
+    pub wrong-size : length (changedAt i (onTheLine image previous buffer)) ≡ 129
+    wrong-size = changed-length (onTheLine image previous buffer) levels i ∙ size
 
-  -- there are 128 bits: the image's, with those beside the level turned
-  pub wrong-length : length (wrongBits image previous buffer i) ≡ 128
-  wrong-length = decoded-length wrong-levels wrong-size
+    -- they decode to 128 bits: the image's, with those beside the level turned
+    pub wrong-length : length (wrongBits image previous buffer i) ≡ 128
+    wrong-length = decoded-length wrong-levels wrong-size
 
-  pub wrong-bits : (n : ℕ) → 1 ≤ n → n ≤ 128 → lastFrame (wrongBits image previous buffer i) n ≡ turnedBeside i (bitAt image) n
-  wrong-bits n h l =
-      ends-in [] (wrongBits image previous buffer i) wrong-length n
-      ∙ bits-turned (onTheLine image previous buffer) levels i (omega (arith, size)) n h (omega (arith, size))
-      ∙ ap (λ (x : ℕ). pick (beside i n) (1 - x) x) (line-frame image good previous level buffer room n h l)
+    pub wrong-bits : (n : ℕ) → 1 ≤ n → n ≤ 128 → lastFrame (wrongBits image previous buffer i) n ≡ turnedBeside i (bitAt image) n
+    wrong-bits n h l =
+        ends-in [] (wrongBits image previous buffer i) wrong-length n
+        ∙ bits-turned (onTheLine image previous buffer) levels i (omega (arith, size)) n h (omega (arith, size))
+        ∙ ap (λ (x : ℕ). pick (beside i n) (1 - x) x) (ap (λ (t : List ℕ). frameIn t n) bits ∙ image-frame image previous buffer sent n h l)
 
-  -- the verdict on them
-  pub which-refusal : frameVerdict (lastFrame (wrongBits image previous buffer i)) ≡ numbered (refusalAt i)
-  which-refusal =
-      verdict-ext _ _ wrong-bits
-      ∙ neighbours-break (bitAt image) (λ n. omega (arith, bit-lt image n)) (image-good image good previous level buffer room) i few
+    -- the verdict on them
+    pub which-refusal : frameVerdict (lastFrame (wrongBits image previous buffer i)) ≡ numbered (refusalAt i)
+    which-refusal = verdict-ext _ _ wrong-bits ∙ neighbours-break (bitAt image) (λ n. omega (arith, bit-lt image n)) image-good i few
 
 -- ---- THE THEOREM: of any good image that `send` writes after either level, any one of the 129 levels changed, the 128 bits are not a good frame
 
@@ -249,10 +231,8 @@ module _ (image : List ℕ) (good : verdictOf image ≡ numbered success) (previ
       ap decoded e ∙ ap bitsOf (kept-append before wrong ∙ ap (λ (t : List ℕ). kept before ++ t) (kept-all all)) ∙ y .1
       ∙ ap (λ (t : List ℕ). y .0 ++ bitsOf t) (sym (kept-all all)) in
       let theorem = one-wrong-level image good previous level buffer room i few in
-      let silent : endsGood (decoded (ls ++ l ∷ [])) ≡ false =
-      ap endsGood decodes ∙ ends-good (y .0) (decoded wrong) (theorem .0)
-      ∙ good-ext _ _ (λ n _ _. sym (ends-in [] (decoded wrong) (theorem .0) n)) ∙ theorem .1 in
-      demand3 ls l ∙ rw (le-ltb 1 l (last-le before ls l all some e), silent)
+      silent-on-last-bit ls l (y .0) (decoded wrong) (last-le before ls l all some e) decodes (theorem .0)
+      (good-ext _ _ (λ n _ _. sym (ends-in [] (decoded wrong) (theorem .0) n)) ∙ theorem .1)
 
   -- so a fresh receiver that is fed these alone
   pub fresh-hears-nothing : (ls : List ℕ) (l : ℕ) → ls ++ l ∷ [] ≡ changedAt i (onTheLine image previous buffer)
