@@ -67,6 +67,12 @@ verdict-passed image v = success-passed (imageChecks image) refl v
 pub verdict-size : (image : List ℕ) → verdictOf image .number ≡ success → length image ≡ 16
 verdict-size image v = eqb-true _ _ (verdict-passed image v .0)
 
+-- an image that is accepted is a good frame
+pub verdict-frame : (image : List ℕ) → verdictOf image ≡ numbered success → goodFrame (bitAt image) ≡ true
+verdict-frame image v =
+    sym (verdict-good (bitAt image))
+    ∙ ap (λ (r : Refusal). eqb (r .number) success) (sym (verdict-image image (verdict-size image (ap (λ (r : Refusal). r .number) v))) ∙ v)
+
 -- ---- frames with the same 128 bits are alike
 
 module _ (b c : ℕ → ℕ) (same : (n : ℕ) → 1 ≤ n → n ≤ 128 → b n ≡ c n) where

@@ -168,7 +168,7 @@ module _ (image : List ℕ) (previous : ℕ) (buffer : List ℕ) (sent : sendRef
   level : previous ≤ 1
   level = ltb-false 1 previous (not-true _ (passed .1 .1 .0))
 
-  pub good-image : goodFrame (bitAt image) ≡ true
+  good-image : goodFrame (bitAt image) ≡ true
   unfolding goodFrame
   good-image = let p = passed .1 .1 .1 in λ i. both (p .0 i) (both (p .1 .0 i) (p .1 .1 .0 i))
 

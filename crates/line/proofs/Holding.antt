@@ -54,7 +54,7 @@ accept-holds s (k ∷ r) l h =
 
 -- ---- the window of a run of bits
 
-bits-of : (ks : List ℕ) → Bits (bitsOf ks)
+pub bits-of : (ks : List ℕ) → Bits (bitsOf ks)
 bits-of [] = none
 bits-of (k ∷ r) = bits-bits k r
 

@@ -10,7 +10,7 @@ use lib.Dec.{eqb, leb}
 use lib.ListN.{length, getD, length-set}
 use lib.Seq.{getD-set-same, getD-set-other}
 use Rattle.bits.specs.Tests.{pick, both, every}
-use Rattle.bits.specs.Octets.{bitAt}
+use Rattle.bits.specs.Octets.{bitAt, octetsOf}
 use Rattle.refusal.specs.Refusals.{numbered, success, badStart, badMark, badCheck}
 use Rattle.refusal.specs.declared.Refusal.{Refusal}
 use Rattle.frame.specs.Frame.{startGood, marksGood, columnOf, checksGood, goodFrame, frameVerdict, verdictOf}
@@ -18,15 +18,16 @@ use Rattle.line.specs.Levels.{differ, kept, bitsOf, decoded}
 use Rattle.line.specs.Machine.{nothingHanded, answerWith, heardOf, run}
 use Rattle.line.specs.Hearing.{lastFrame, swap}
 use Rattle.line.specs.Sending.{imageBits, sendRefusal}
-use Rattle.line.specs.WrongLevel.{changedAt, onTheLine, wrongBits, beside, turnedBeside, refusalAt}
+use Rattle.line.specs.WrongLevel.{changedAt, onTheLine, wrongBits, turned, beside, refusalAt}
 use Rattle.bits.proofs.TestLaws.{never-true, clash, both-false, between, in-between, by-lt, every-fails, every-all}
 use Rattle.bits.proofs.NumberLaws.{sum-one-turned, length-tab}
-use Rattle.bits.proofs.OctetLaws.{bit-lt}
-use Rattle.frame.proofs.FrameLaws.{by-tests, verdict-good, verdict-size, verdict-ext, good-ext, start-zero, mark-one, final-one, column-odd}
+use Rattle.bits.proofs.OctetLaws.{bit-lt, length-octets, bit-octets}
+use Rattle.frame.proofs.FrameLaws.{by-tests, verdict-good, verdict-image, verdict-size, verdict-frame, verdict-ext, good-ext, start-zero, mark-one, final-one, column-odd}
 use Rattle.line.proofs.WindowLaws.{Bits}
 use Rattle.line.proofs.LevelLaws.{by-levels, bit-told, length-told, bits-behind, kept-append, kept-all, bits-at, bits-set, last-le}
 use Rattle.line.proofs.SendingLaws.{by-verdict}
-use Rattle.line.proofs.Demand3.{frameIn, ends-in, silent-on-last-bit, good-image, image-frame, sent-levels, sent-bits}
+use Rattle.line.proofs.Holding.{bits-of}
+use Rattle.line.proofs.Demand3.{frameIn, ends-in, silent-on-last-bit, image-frame, sent-levels, sent-bits}
 
 -- bits i and i + 1 are beside level i, and no others
 is-beside : (i n : ℕ) → i ≤ n → n ≤ i + 1 → beside i n ≡ true
@@ -49,21 +50,22 @@ differ-second = by-levels (λ a b. differ a (swap b) ≡ 1 - differ a b) refl re
 swap-le : (l : ℕ) → l ≤ 1 → swap l ≤ 1
 swap-le l h = rw (le-ltb 1 l h) (omega arith)
 
+-- level i is changed, and no other
+level-changes : (levels : List ℕ) (i : ℕ) → i < length levels → getD (changedAt i levels) i 0 ≡ swap (getD levels i 0)
+level-changes levels i h = getD-set-same levels i _ 0 h
+
+level-stays : (levels : List ℕ) (i m : ℕ) → (m ≡ i → ⊥) → getD (changedAt i levels) m 0 ≡ getD levels m 0
+level-stays levels i m d = getD-set-other levels i m _ 0 d
+
+pub changed-length : (levels : List ℕ) (i : ℕ) → length (changedAt i levels) ≡ length levels
+changed-length levels i = length-set levels i _
+
 module _ (levels : List ℕ) (all : Bits levels) (i : ℕ) where
-  level-changes : i < length levels → getD (changedAt i levels) i 0 ≡ swap (getD levels i 0)
-  level-changes there = getD-set-same levels i _ 0 there
-
-  level-stays : (m : ℕ) → (m ≡ i → ⊥) → getD (changedAt i levels) m 0 ≡ getD levels m 0
-  level-stays m d = getD-set-other levels i m _ 0 d
-
   pub changed-levels : Bits (changedAt i levels)
   changed-levels = bits-set i _ (swap-le _ (bits-at all i)) all
 
-  pub changed-length : length (changedAt i levels) ≡ length levels
-  changed-length = length-set levels i _
-
   -- bit n is told by levels n - 1 and n
-  pub bits-turned : i < length levels → (n : ℕ) → 1 ≤ n → n < length levels → frameIn (decoded (changedAt i levels)) n ≡ turnedBeside i (frameIn (decoded levels)) n
+  pub bits-turned : i < length levels → (n : ℕ) → 1 ≤ n → n < length levels → frameIn (decoded (changedAt i levels)) n ≡ turned (beside i) (frameIn (decoded levels)) n
   bits-turned there n l h = told-after ∙ go (beside i n) refl ∙ ap (λ (x : ℕ). pick (beside i n) (1 - x) x) (sym told-before)
     where
       k : ℕ
@@ -73,72 +75,75 @@ module _ (levels : List ℕ) (all : Bits levels) (i : ℕ) where
       told-before = ap (λ (ls : List ℕ). frameIn (bitsOf ls) n) (kept-all all) ∙ bit-told levels k (omega arith)
 
       told-after : frameIn (decoded (changedAt i levels)) n ≡ differ (getD (changedAt i levels) k 0) (getD (changedAt i levels) (suc k) 0)
-      told-after = ap (λ (ls : List ℕ). frameIn (bitsOf ls) n) (kept-all changed-levels) ∙ bit-told (changedAt i levels) k (omega (arith, changed-length))
+      told-after = ap (λ (ls : List ℕ). frameIn (bitsOf ls) n) (kept-all changed-levels) ∙ bit-told (changedAt i levels) k (omega (arith, changed-length levels i))
+
+      stays : (m : ℕ) → (m ≡ i → ⊥) → getD (changedAt i levels) m 0 ≡ getD levels m 0
+      stays = level-stays levels i
 
       changes : (m : ℕ) → m ≡ i → getD (changedAt i levels) m 0 ≡ swap (getD levels m 0)
-      changes m e = rw e (level-changes there)
+      changes m e = rw e (level-changes levels i there)
 
       go : (t : Bool) → beside i n ≡ t → differ (getD (changedAt i levels) k 0) (getD (changedAt i levels) (suc k) 0)
           ≡ pick t (1 - differ (getD levels k 0) (getD levels (suc k) 0)) (differ (getD levels k 0) (getD levels (suc k) 0))
       go true e =
           let p = beside-is i n e in
-          by-lt i n (λ lt. ap₂ differ (changes k (omega arith)) (level-stays (suc k) (λ q. omega arith)) ∙ differ-first _ _ (bits-at all k) (bits-at all (suc k)))
-          (λ le. ap₂ differ (level-stays k (λ q. omega arith)) (changes (suc k) (omega arith)) ∙ differ-second _ _ (bits-at all k) (bits-at all (suc k)))
+          by-lt i n (λ lt. ap₂ differ (changes k (omega arith)) (stays (suc k) (λ q. omega arith)) ∙ differ-first _ _ (bits-at all k) (bits-at all (suc k)))
+          (λ le. ap₂ differ (stays k (λ q. omega arith)) (changes (suc k) (omega arith)) ∙ differ-second _ _ (bits-at all k) (bits-at all (suc k)))
       go false e =
-          ap₂ differ (level-stays k (λ q. clash (is-beside i n (omega arith) (omega arith)) e))
-          (level-stays (suc k) (λ q. clash (is-beside i n (omega arith) (omega arith)) e))
+          ap₂ differ (stays k (λ q. clash (is-beside i n (omega arith) (omega arith)) e))
+          (stays (suc k) (λ q. clash (is-beside i n (omega arith) (omega arith)) e))
 
 -- ---- second step: two neighbouring bits of a good frame turned break the start group, a mark, the final one, or a check column
 
 module _ (b : ℕ → ℕ) (bit : (n : ℕ) → b n ≤ 1) (good : goodFrame b ≡ true) (i : ℕ) where
-  turned : (n : ℕ) → i ≤ n → n ≤ i + 1 → turnedBeside i b n ≡ 1 - b n
-  turned n h l = rw (is-beside i n h l)
+  touched : (n : ℕ) → i ≤ n → n ≤ i + 1 → turned (beside i) b n ≡ 1 - b n
+  touched n h l = rw (is-beside i n h l)
 
-  untouched : (n : ℕ) → (n ≡ i → ⊥) → (n ≡ i + 1 → ⊥) → turnedBeside i b n ≡ b n
+  untouched : (n : ℕ) → (n ≡ i → ⊥) → (n ≡ i + 1 → ⊥) → turned (beside i) b n ≡ b n
   untouched n h l = rw (not-beside i n h l)
 
   -- up to level 8: a zero of the start group becomes a one
-  pub start-breaks : i ≤ 8 → startGood (turnedBeside i b) ≡ false
+  pub start-breaks : i ≤ 8 → startGood (turned (beside i) b) ≡ false
   start-breaks h =
       every-fails _ 8 (i - 1) (omega arith)
-      (ne-eqb (turnedBeside i b (i - 1 + 1)) 0 (λ e. omega (arith, e, turned (i - 1 + 1) (omega arith) (omega arith), start-zero b good (i - 1) (omega arith))))
+      (ne-eqb (turned (beside i) b (i - 1 + 1)) 0 (λ e. omega (arith, e, touched (i - 1 + 1) (omega arith) (omega arith), start-zero b good (i - 1) (omega arith))))
 
-  pub start-holds : 8 < i → startGood (turnedBeside i b) ≡ true
+  start-holds : 8 < i → startGood (turned (beside i) b) ≡ true
   start-holds h = every-all _ 8 (λ n l. eq-eqb _ 0 (untouched (n + 1) (λ e. omega arith) (λ e. omega arith) ∙ start-zero b good n l))
 
   -- beside a mark, from the seventh bit of the group before it on: the mark becomes a zero
-  pub mark-breaks : 8 < i → i < 127 → i % 8 ≤ 1 → marksGood (turnedBeside i b) ≡ false
+  pub mark-breaks : 8 < i → i < 127 → i % 8 ≤ 1 → marksGood (turned (beside i) b) ≡ false
   mark-breaks h l m =
       let g = i / 8 - 1 in
-      ap (λ (t : Bool). both t (eqb (turnedBeside i b 128) 1))
+      ap (λ (t : Bool). both t (eqb (turned (beside i) b 128) 1))
       (every-fails _ 15 g (omega arith)
-      (ne-eqb (turnedBeside i b (8 * g + 9)) 1 (λ e. omega (arith, e, turned (8 * g + 9) (omega arith) (omega arith), mark-one b good g (omega arith)))))
+      (ne-eqb (turned (beside i) b (8 * g + 9)) 1 (λ e. omega (arith, e, touched (8 * g + 9) (omega arith) (omega arith), mark-one b good g (omega arith)))))
 
   -- beside the final one: it becomes a zero
-  pub final-breaks : 127 ≤ i → i ≤ 128 → marksGood (turnedBeside i b) ≡ false
+  pub final-breaks : 127 ≤ i → i ≤ 128 → marksGood (turned (beside i) b) ≡ false
   final-breaks h l =
-      let marks = every (λ g. eqb (turnedBeside i b (8 * g + 9)) 1) 15 in
-      ap (both marks) (ne-eqb (turnedBeside i b 128) 1 (λ e. omega (arith, e, turned 128 (omega arith) (omega arith), final-one b good))) ∙ both-false marks
+      let marks = every (λ g. eqb (turned (beside i) b (8 * g + 9)) 1) 15 in
+      ap (both marks) (ne-eqb (turned (beside i) b 128) 1 (λ e. omega (arith, e, touched 128 (omega arith) (omega arith), final-one b good))) ∙ both-false marks
 
-  pub marks-hold : 8 < i → i < 127 → 1 < i % 8 → marksGood (turnedBeside i b) ≡ true
+  marks-hold : 8 < i → i < 127 → 1 < i % 8 → marksGood (turned (beside i) b) ≡ true
   marks-hold h l m =
       ap₂ both (every-all _ 15 (λ g k. eq-eqb _ 1 (untouched (8 * g + 9) (λ e. omega arith) (λ e. omega arith) ∙ mark-one b good g k)))
       (eq-eqb _ 1 (untouched 128 (λ e. omega arith) (λ e. omega arith) ∙ final-one b good))
 
   -- anywhere else: bit j of a group, one of the first six, and the bit after it are turned; column j has one turned bit, so its count is even
-  pub check-breaks : 8 < i → i < 127 → 1 < i % 8 → checksGood (turnedBeside i b) ≡ false
+  pub check-breaks : 8 < i → i < 127 → 1 < i % 8 → checksGood (turned (beside i) b) ≡ false
   check-breaks h l m =
       let j = i % 8 - 2 in
       let g = i / 8 - 1 in
       let at : 8 * g + 9 + (j + 1) ≡ i = omega arith in
-      let one : turnedBeside i b (8 * g + 9 + (j + 1)) + b (8 * g + 9 + (j + 1)) ≡ 1 = omega (arith, turned (8 * g + 9 + (j + 1)) (omega arith) (omega arith), bit (8 * g + 9 + (j + 1))) in
-      let even : (columnOf (turnedBeside i b) (j + 1) + columnOf b (j + 1)) % 2 ≡ 1 =
-      sum-one-turned (λ k. turnedBeside i b (8 * k + 9 + (j + 1))) (λ k. b (8 * k + 9 + (j + 1))) 15 g (omega arith) one
+      let one : turned (beside i) b (8 * g + 9 + (j + 1)) + b (8 * g + 9 + (j + 1)) ≡ 1 = omega (arith, touched (8 * g + 9 + (j + 1)) (omega arith) (omega arith), bit (8 * g + 9 + (j + 1))) in
+      let odd : (columnOf (turned (beside i) b) (j + 1) + columnOf b (j + 1)) % 2 ≡ 1 =
+      sum-one-turned (λ k. turned (beside i) b (8 * k + 9 + (j + 1))) (λ k. b (8 * k + 9 + (j + 1))) 15 g (omega arith) one
       (λ k _ d. untouched (8 * k + 9 + (j + 1)) (λ e. d (omega arith)) (λ e. omega arith)) in
-      every-fails _ 6 j (omega arith) (ne-eqb (columnOf (turnedBeside i b) (j + 1) % 2) 1 (λ e. omega (arith, e, even, column-odd b good j (omega arith))))
+      every-fails _ 6 j (omega arith) (ne-eqb (columnOf (turned (beside i) b) (j + 1) % 2) 1 (λ e. omega (arith, e, odd, column-odd b good j (omega arith))))
 
   -- so the verdict is told by where the level lies
-  pub neighbours-break : i ≤ 128 → frameVerdict (turnedBeside i b) ≡ numbered (refusalAt i)
+  pub neighbours-break : i ≤ 128 → frameVerdict (turned (beside i) b) ≡ numbered (refusalAt i)
   neighbours-break few =
       by-lt 8 i
       (λ h.
@@ -170,9 +175,6 @@ module _ (image : List ℕ) (good : verdictOf image ≡ numbered success) (previ
   sent : sendRefusal image previous buffer ≡ numbered success
   sent = by-verdict image previous buffer (verdict-size image (ap (λ (r : Refusal). r .number) good)) room level ∙ good
 
-  pub image-good : goodFrame (bitAt image) ≡ true
-  image-good = good-image image previous buffer sent
-
   levels : Bits (onTheLine image previous buffer)
   levels = sent-levels image previous buffer sent
 
@@ -188,21 +190,27 @@ module _ (image : List ℕ) (good : verdictOf image ≡ numbered success) (previ
     wrong-levels = changed-levels (onTheLine image previous buffer) levels i
 
     pub wrong-size : length (changedAt i (onTheLine image previous buffer)) ≡ 129
-    wrong-size = changed-length (onTheLine image previous buffer) levels i ∙ size
+    wrong-size = changed-length (onTheLine image previous buffer) i ∙ size
 
     -- they decode to 128 bits: the image's, with those beside the level turned
     pub wrong-length : length (wrongBits image previous buffer i) ≡ 128
     wrong-length = decoded-length wrong-levels wrong-size
 
-    pub wrong-bits : (n : ℕ) → 1 ≤ n → n ≤ 128 → lastFrame (wrongBits image previous buffer i) n ≡ turnedBeside i (bitAt image) n
+    pub wrong-bits : (n : ℕ) → 1 ≤ n → n ≤ 128 → lastFrame (wrongBits image previous buffer i) n ≡ turned (beside i) (bitAt image) n
     wrong-bits n h l =
         ends-in [] (wrongBits image previous buffer i) wrong-length n
         ∙ bits-turned (onTheLine image previous buffer) levels i (omega (arith, size)) n h (omega (arith, size))
         ∙ ap (λ (x : ℕ). pick (beside i n) (1 - x) x) (ap (λ (t : List ℕ). frameIn t n) bits ∙ image-frame image previous buffer sent n h l)
 
-    -- the verdict on them
-    pub which-refusal : frameVerdict (lastFrame (wrongBits image previous buffer i)) ≡ numbered (refusalAt i)
-    which-refusal = verdict-ext _ _ wrong-bits ∙ neighbours-break (bitAt image) (λ n. omega (arith, bit-lt image n)) image-good i few
+    -- the verdict on them, of the bits and of the image that they make
+    verdict-told : frameVerdict (lastFrame (wrongBits image previous buffer i)) ≡ numbered (refusalAt i)
+    verdict-told = verdict-ext _ _ wrong-bits ∙ neighbours-break (bitAt image) (λ n. omega (arith, bit-lt image n)) (verdict-frame image good) i few
+
+    pub which-refusal : verdictOf (octetsOf 16 (lastFrame (wrongBits image previous buffer i))) ≡ numbered (refusalAt i)
+    which-refusal =
+        let b : ℕ → ℕ = lastFrame (wrongBits image previous buffer i) in
+        let small : (n : ℕ) → b n < 2 = λ n. omega (arith, bits-at (bits-of (kept (changedAt i (onTheLine image previous buffer)))) (length (wrongBits image previous buffer i) - 128 + (n - 1))) in
+        verdict-image (octetsOf 16 b) (length-octets 16 b) ∙ verdict-ext _ _ (λ n h l. bit-octets 16 b small n h l) ∙ verdict-told
 
 -- ---- THE THEOREM: of any good image that `send` writes after either level, any one of the 129 levels changed, the 128 bits are not a good frame
 
@@ -211,7 +219,7 @@ pub one-wrong-level : (image : List ℕ) → verdictOf image ≡ numbered succes
 one-wrong-level image good previous level buffer room i few = (
   wrong-length image good previous level buffer room i few,
   sym (verdict-good (lastFrame (wrongBits image previous buffer i)))
-      ∙ ap (λ (r : Refusal). eqb (r .number) success) (which-refusal image good previous level buffer room i few)
+      ∙ ap (λ (r : Refusal). eqb (r .number) success) (verdict-told image good previous level buffer room i few)
       ∙ never-success i,
 )
 

@@ -27,16 +27,16 @@ wrongBits image previous buffer i = decoded (changedAt i (onTheLine image previo
 abbrev pub twoWrongBits : List ℕ → ℕ → List ℕ → ℕ → ℕ → List ℕ
 twoWrongBits image previous buffer i k = decoded (changedAt k (changedAt i (onTheLine image previous buffer)))
 
+-- a frame with the bits turned that a test names
+abbrev pub turned : (ℕ → Bool) → (ℕ → ℕ) → ℕ → ℕ
+turned which b n = pick (which n) (1 - b n) (b n)
+
 -- the bits beside level i: the one that it tells, and the next; a frame has no bit 0 and no bit 129
 abbrev pub beside : ℕ → ℕ → Bool
 beside i n = isBetween i (i + 1) n
 
--- a frame with these turned
-abbrev pub turnedBeside : ℕ → (ℕ → ℕ) → ℕ → ℕ
-turnedBeside i b n = pick (beside i n) (1 - b n) (b n)
-
--- what is then wrong first: up to level 8 the start group; beside the final one, or beside a mark, which is a bit 9, 17, .. 121, the marks; else a
--- check bit
+-- what is wrong first with a good frame when level i is changed: up to level 8 the start group; beside the final one, bit 128, or beside a mark, bits 9,
+-- 17, .. 121, the marks; else a check column
 abbrev pub refusalAt : ℕ → ℕ
 refusalAt i = pick (leb i 8) badStart (pick (leb 127 i) badMark (pick (leb (i % 8) 1) badMark badCheck))
 

@@ -47,13 +47,13 @@ track n q x y = record { number = n; quality = q; x = record { 0 = x }; y = reco
 abbrev pub at : ℤ → Message
 at x = m.S4 (track 0 0 x (pos 0))
 
--- the octets of a text; the levels that its digits write
+-- the octets of a text; the numbers that its digits write
 abbrev pub octets : String → List ℕ
 octets string.[] = []
 octets (string._∷_ c rest) = code c ∷ octets rest
 
-abbrev pub levels : String → List ℕ
-levels text = map (λ (c : ℕ). c - 48) (octets text)
+abbrev pub digits : String → List ℕ
+digits text = map (λ (c : ℕ). c - 48) (octets text)
 
 -- ---- what is asked
 

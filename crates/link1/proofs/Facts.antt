@@ -20,6 +20,7 @@ use Rattle.kind.specs.declared.Kind.{Kind}
 use Rattle.frame.specs.Frame.{goodFrame, verdictOf}
 use Rattle.frame.specs.Words.{imageOf}
 use Rattle.line.specs.Machine.{holdsFrame}
+use Rattle.line.specs.Hearing.{swap}
 use Rattle.line.specs.Sending.{sendRefusal, sendLevels}
 use Rattle.line.specs.WrongLevel.{changedAt, onTheLine, refusalAt}
 use Rattle.octets.specs.Feeding.{taken, lastOf, endBit, fedTo}
@@ -42,7 +43,7 @@ use Rattle.pair.specs.Closing.{closeRefusal, closeImage}
 use Rattle.pair.specs.Zeroed.{zeroedImage}
 use Rattle.relay.specs.Relay.{relayRefusal, relayImage}
 use Rattle.link1.proofs.Asking.{Asked, verdict-of, open-image, kind-named, close-pair, send-after, hear-after, hear-octets, search-from, number-of, text-of, relay-by}
-use Rattle.link1.proofs.Asking.{nothing, pair, buffer, heard, heard-at, value, told, toldBit, answer, Row, _⇒_, answers, expected, track, at, octets, levels}
+use Rattle.link1.proofs.Asking.{nothing, pair, buffer, heard, heard-at, value, told, toldBit, answer, Row, _⇒_, answers, expected, track, at, octets, digits}
 use Rattle.link1.proofs.Examples.{imageT, imageN, imageP}
 
 -- ---- labels and bit places (01, 'Messages'; S.9: 02, item 1)
@@ -303,10 +304,10 @@ noOctets = replicate 16 0
 
 -- the levels of T after 0, and after 1
 abbrev levelsT0 : List ℕ
-levelsT0 = levels "00000000110100110010110011010011001011001101001100101100110100110010110011010011001011001101001100101100110100110010110010101010"
+levelsT0 = digits "00000000110100110010110011010011001011001101001100101100110100110010110011010011001011001101001100101100110100110010110010101010"
 
 abbrev levelsT1 : List ℕ
-levelsT1 = levels "11111111001011001101001100101100110100110010110011010011001011001101001100101100110100110010110011010011001011001101001101010101"
+levelsT1 = digits "11111111001011001101001100101100110100110010110011010011001011001101001100101100110100110010110011010011001011001101001101010101"
 
 -- T behind three ones, and ones behind it
 abbrev shiftedT : List ℕ
@@ -449,16 +450,16 @@ hearing-hold = refl
 -- wrong levels (02, item 7): P sent after 0, with that level before it, as it is; with level 16 changed; with 36 and 44 changed; with all from 16 on
 -- changed, the wires swapped there
 abbrev lineP : List ℕ
-lineP = levels "000000000100001110000000011111111000000001111111100000000111111110000000011111111000000001111111100000000111111110000000011010010"
+lineP = digits "000000000100001110000000011111111000000001111111100000000111111110000000011111111000000001111111100000000111111110000000011010010"
 
 abbrev lineP16 : List ℕ
-lineP16 = levels "000000000100001100000000011111111000000001111111100000000111111110000000011111111000000001111111100000000111111110000000011010010"
+lineP16 = digits "000000000100001100000000011111111000000001111111100000000111111110000000011111111000000001111111100000000111111110000000011010010"
 
 abbrev lineP36 : List ℕ
-lineP36 = levels "000000000100001110000000011111111000100001110111100000000111111110000000011111111000000001111111100000000111111110000000011010010"
+lineP36 = digits "000000000100001110000000011111111000100001110111100000000111111110000000011111111000000001111111100000000111111110000000011010010"
 
 abbrev lineSwapped : List ℕ
-lineSwapped = levels "000000000100001101111111100000000111111110000000011111111000000001111111100000000111111110000000011111111000000001111111100101101"
+lineSwapped = digits "000000000100001101111111100000000111111110000000011111111000000001111111100000000111111110000000011111111000000001111111100101101"
 
 -- P with its track at X = 387; and as track AA001
 abbrev imageAway : List ℕ
@@ -486,16 +487,17 @@ pub wrongs-hold : answers wrongs ≡ expected wrongs
 unfolding answer every numOf sumOf goodFrame holdsFrame openRefusal openOf pairOf
 wrongs-hold = refl
 
--- the levels that the definitions change are these
+-- by the definitions these are the levels sent and changed
 pub changed-are :
-    onTheLine imageP 0 (fives 128) ∷ changedAt 16 lineP ∷ changedAt 44 (changedAt 36 lineP) ∷ [] ≡ lineP ∷ lineP16 ∷ lineP36 ∷ []
+    onTheLine imageP 0 (fives 128) ∷ changedAt 16 lineP ∷ changedAt 44 (changedAt 36 lineP) ∷ (take 16 lineP ++ map swap (drop 16 lineP)) ∷ []
+    ≡ lineP ∷ lineP16 ∷ lineP36 ∷ lineSwapped ∷ []
 unfolding every sumOf tab sendRefusal sendLevels
 changed-are = refl
 
 -- what is told of each of the 129 levels that is changed alone
 pub refusals-are :
     tab refusalAt 129
-    ≡ levels "333333333455555544555555445555554455555544555555445555554455555544555555445555554455555544555555445555554455555544555555445555544"
+    ≡ digits "333333333455555544555555445555554455555544555555445555554455555544555555445555554455555544555555445555554455555544555555445555544"
 unfolding tab
 refusals-are = refl
 

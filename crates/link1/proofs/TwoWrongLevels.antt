@@ -14,21 +14,17 @@ use Rattle.bits.specs.Octets.{bitAt}
 use Rattle.refusal.specs.Refusals.{numbered, success}
 use Rattle.frame.specs.Frame.{startGood, marksGood, columnOf, checksGood, goodFrame, verdictOf}
 use Rattle.line.specs.Hearing.{lastFrame}
-use Rattle.line.specs.WrongLevel.{changedAt, onTheLine, wrongBits, twoWrongBits, beside, turnedBeside, passTogether}
+use Rattle.line.specs.WrongLevel.{changedAt, onTheLine, wrongBits, twoWrongBits, turned, beside, passTogether}
 use Rattle.bits.proofs.TestLaws.{every-ext, every-at}
 use Rattle.bits.proofs.OctetLaws.{bit-lt}
-use Rattle.frame.proofs.FrameLaws.{good-ext, start-zero, mark-one, final-one, column-odd}
+use Rattle.frame.proofs.FrameLaws.{verdict-frame, good-ext, start-zero, mark-one, final-one, column-odd}
 use Rattle.line.proofs.WindowLaws.{Bits}
 use Rattle.line.proofs.Demand3.{ends-in}
-use Rattle.line.proofs.OneWrongLevel.{changed-levels, changed-length, bits-turned, decoded-length, image-good, wrong-levels, wrong-size, wrong-length, wrong-bits}
+use Rattle.line.proofs.OneWrongLevel.{changed-levels, changed-length, bits-turned, decoded-length, wrong-levels, wrong-size, wrong-length, wrong-bits}
 
 -- ---- what is noticed depends on which bits are turned, and not on the frame
 
--- the bits turned that a test names
-abbrev turned : (ℕ → Bool) → (ℕ → ℕ) → ℕ → ℕ
-turned d b n = pick (d n) (1 - b n) (b n)
-
--- a one for each of them
+-- a one for each bit that is turned
 abbrev oneFor : (ℕ → Bool) → ℕ → ℕ
 oneFor d n = pick (d n) 1 0
 
@@ -91,7 +87,7 @@ module _ (d : ℕ → Bool) (b : ℕ → ℕ) (small : (n : ℕ) → b n ≤ 1) 
 abbrev besideOne : ℕ → ℕ → ℕ → Bool
 besideOne i k n = pick (beside i n) (not (beside k n)) (beside k n)
 
-beside-one : (i k : ℕ) (b : ℕ → ℕ) (n : ℕ) → b n ≤ 1 → turnedBeside k (turnedBeside i b) n ≡ turned (besideOne i k) b n
+beside-one : (i k : ℕ) (b : ℕ → ℕ) (n : ℕ) → b n ≤ 1 → turned (beside k) (turned (beside i) b) n ≡ turned (besideOne i k) b n
 beside-one i k b n small = go (beside i n) (beside k n)
   where
     go : (s t : Bool) → pick t (1 - pick s (1 - b n) (b n)) (pick s (1 - b n) (b n)) ≡ pick (pick s (not t) t) (1 - b n) (b n)
@@ -100,7 +96,8 @@ beside-one i k b n small = go (beside i n) (beside k n)
     go false true = refl
     go false false = refl
 
--- computed for every two levels
+-- ---- which two pass, computed for every two of 129 levels
+
 abbrev same : Bool → Bool → Bool
 same true t = t
 same false t = not t
@@ -123,7 +120,7 @@ two-seen i k h few =
     let e : rule i k ≡ true = every-at (rule i) 129 (every-at (λ m. every (rule m) 129) 129 every-two i (omega arith)) k (omega arith) in
     same-is _ _ (rw (lt-ltb i k h) at e)
 
--- of 8,256 two levels 616
+-- of the 8,256 choices of two levels 616 pass
 pub counted : sumOf (λ i. sumOf (λ k. pick (both (ltb i k) (passTogether i k)) 1 0) 129) 129 ≡ 616
 unfolding sumOf
 counted = refl
@@ -141,12 +138,12 @@ module _ (image : List ℕ) (good : verdictOf image ≡ numbered success) (previ
   one-size : length (changedAt i (onTheLine image previous buffer)) ≡ 129
   one-size = wrong-size image good previous level buffer room i first
 
-  pub two-length : length (twoWrongBits image previous buffer i k) ≡ 128
+  two-length : length (twoWrongBits image previous buffer i k) ≡ 128
   two-length =
       decoded-length (changed-levels (changedAt i (onTheLine image previous buffer)) one-levels k)
-      (changed-length (changedAt i (onTheLine image previous buffer)) one-levels k ∙ one-size)
+      (changed-length (changedAt i (onTheLine image previous buffer)) k ∙ one-size)
 
-  pub two-bits : (n : ℕ) → 1 ≤ n → n ≤ 128 → lastFrame (twoWrongBits image previous buffer i k) n ≡ turnedBeside k (turnedBeside i (bitAt image)) n
+  two-bits : (n : ℕ) → 1 ≤ n → n ≤ 128 → lastFrame (twoWrongBits image previous buffer i k) n ≡ turned (beside k) (turned (beside i) (bitAt image)) n
   two-bits n h l =
       ends-in [] (twoWrongBits image previous buffer i k) two-length n
       ∙ bits-turned (changedAt i (onTheLine image previous buffer)) one-levels k (omega (arith, one-size)) n h (omega (arith, one-size))
@@ -158,5 +155,5 @@ module _ (image : List ℕ) (good : verdictOf image ≡ numbered success) (previ
   two-wrong-levels =
       let bit : (n : ℕ) → bitAt image n ≤ 1 = λ n. omega (arith, bit-lt image n) in
       good-ext _ _ (λ n h l. two-bits n h l ∙ beside-one i k (bitAt image) n (bit n))
-      ∙ turned-good (besideOne i k) (bitAt image) bit (image-good image good previous level buffer room)
+      ∙ turned-good (besideOne i k) (bitAt image) bit (verdict-frame image good)
       ∙ two-seen i k order few

@@ -1,4 +1,4 @@
-// The calls of the public list, each with its arguments from a line's parts and its whole answer told.
+// The calls of the public list, each with its arguments from a line's parts and its whole answer told; and `wrong_levels`, which makes several of them.
 
 use crate::messages;
 use link1::Feet;
@@ -209,11 +209,12 @@ fn send(line: &[u8], body: &[u8]) {
     send_into(body, numbers::u8_at(line, 1, 0), &mut levels[0..length]);
 }
 
-fn send_on(body: &[u8], previous: u8, levels: &mut [u8]) -> Refusal {
+// Sends into a part of levels.
+fn send_part(body: &[u8], previous: u8, levels: &mut [u8]) -> Refusal {
     link1::send(body, previous, levels)
 }
 
-// The sixteen octets of a window.
+// The sixteen octets of a window, which no public call gives.
 fn image_of(window: Window) -> [u8; 16] {
     let mut image = [0u8; 16];
     let mut older = window.older;
@@ -250,14 +251,14 @@ fn tell_each(levels: [u8; 129]) {
     }
 }
 
-// wrong_levels PREVIOUS IMAGE: 129 levels, the one before the frame and those that are sent.
+// wrong_levels PREVIOUS IMAGE: the refusal of sending, and where it is sent a digit for each of 129 levels, the one before the frame first.
 fn wrong_levels(line: &[u8], body: &[u8]) {
     let mut levels = [0u8; 129];
     if !numbers::is_up_to(line, 1, 255) {
         return show::refuse();
     }
     levels[0] = numbers::u8_at(line, 1, 0);
-    let sent = send_on(body, levels[0], &mut levels[1..129]);
+    let sent = send_part(body, levels[0], &mut levels[1..129]);
     show::refusal(sent);
     if sent.number == link1::SUCCESS {
         show::text(b" ");
