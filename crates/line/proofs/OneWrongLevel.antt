@@ -5,11 +5,12 @@ use mathlib.Core.Bool.{Bool, true, false}
 use mathlib.Core.List.{List, [], _∷_, _++_}
 use Prim.Native.Nat.{ℕ, suc, _+_, _-_, _*_, _/_, _%_, _≤_, _<_}
 use native.Mathlib.Omega.{arith}
-use borrow.Author.Tests.{le-leb, lt-leb, eq-eqb, ne-eqb, le-ltb}
+use borrow.Author.Tests.{le-leb, lt-leb, eq-eqb, eqb-true, ne-eqb, le-ltb}
 use lib.Dec.{eqb, leb}
 use lib.ListN.{length, getD, length-set}
 use lib.Seq.{getD-set-same, getD-set-other}
 use Rattle.bits.specs.Tests.{pick, both, every}
+use Rattle.bits.specs.Numbers.{sumOf}
 use Rattle.bits.specs.Octets.{bitAt, octetsOf}
 use Rattle.refusal.specs.Refusals.{numbered, success, badStart, badMark, badCheck}
 use Rattle.refusal.specs.declared.Refusal.{Refusal}
@@ -19,8 +20,8 @@ use Rattle.line.specs.Machine.{nothingHanded, answerWith, heardOf, run}
 use Rattle.line.specs.Hearing.{lastFrame, swap}
 use Rattle.line.specs.Sending.{imageBits, sendRefusal}
 use Rattle.line.specs.WrongLevel.{changedAt, onTheLine, wrongBits, turned, beside, refusalAt}
-use Rattle.bits.proofs.TestLaws.{never-true, clash, both-false, between, in-between, by-lt, every-fails, every-all}
-use Rattle.bits.proofs.NumberLaws.{sum-one-turned, length-tab}
+use Rattle.bits.proofs.TestLaws.{never-true, clash, both-false, between, in-between, by-lt, every-fails, every-all, every-at}
+use Rattle.bits.proofs.NumberLaws.{sum-turned, length-tab}
 use Rattle.bits.proofs.OctetLaws.{bit-lt, length-octets, bit-octets}
 use Rattle.frame.proofs.FrameLaws.{by-tests, verdict-good, verdict-image, verdict-size, verdict-frame, verdict-ext, good-ext, start-zero, mark-one, final-one, column-odd}
 use Rattle.line.proofs.WindowLaws.{Bits}
@@ -77,9 +78,6 @@ module _ (levels : List ℕ) (all : Bits levels) (i : ℕ) where
       told-after : frameIn (decoded (changedAt i levels)) n ≡ differ (getD (changedAt i levels) k 0) (getD (changedAt i levels) (suc k) 0)
       told-after = ap (λ (ls : List ℕ). frameIn (bitsOf ls) n) (kept-all changed-levels) ∙ bit-told (changedAt i levels) k (omega (arith, changed-length levels i))
 
-      stays : (m : ℕ) → (m ≡ i → ⊥) → getD (changedAt i levels) m 0 ≡ getD levels m 0
-      stays = level-stays levels i
-
       changes : (m : ℕ) → m ≡ i → getD (changedAt i levels) m 0 ≡ swap (getD levels m 0)
       changes m e = rw e (level-changes levels i there)
 
@@ -87,11 +85,36 @@ module _ (levels : List ℕ) (all : Bits levels) (i : ℕ) where
           ≡ pick t (1 - differ (getD levels k 0) (getD levels (suc k) 0)) (differ (getD levels k 0) (getD levels (suc k) 0))
       go true e =
           let p = beside-is i n e in
-          by-lt i n (λ lt. ap₂ differ (changes k (omega arith)) (stays (suc k) (λ q. omega arith)) ∙ differ-first _ _ (bits-at all k) (bits-at all (suc k)))
-          (λ le. ap₂ differ (stays k (λ q. omega arith)) (changes (suc k) (omega arith)) ∙ differ-second _ _ (bits-at all k) (bits-at all (suc k)))
+          by-lt i n (λ lt. ap₂ differ (changes k (omega arith)) (level-stays levels i (suc k) (λ q. omega arith)) ∙ differ-first _ _ (bits-at all k) (bits-at all (suc k)))
+          (λ le. ap₂ differ (level-stays levels i k (λ q. omega arith)) (changes (suc k) (omega arith)) ∙ differ-second _ _ (bits-at all k) (bits-at all (suc k)))
       go false e =
-          ap₂ differ (stays k (λ q. clash (is-beside i n (omega arith) (omega arith)) e))
-          (stays (suc k) (λ q. clash (is-beside i n (omega arith) (omega arith)) e))
+          ap₂ differ (level-stays levels i k (λ q. clash (is-beside i n (omega arith) (omega arith)) e))
+          (level-stays levels i (suc k) (λ q. clash (is-beside i n (omega arith) (omega arith)) e))
+
+-- ---- what a check column sees of turned bits
+
+-- a one for each bit that is turned
+abbrev pub oneFor : (ℕ → Bool) → ℕ → ℕ
+oneFor which n = pick (which n) 1 0
+
+-- its count changes by an odd number where an odd number of its bits is turned
+pub column-turned : (which : ℕ → Bool) (b : ℕ → ℕ) → ((n : ℕ) → b n ≤ 1) → (j : ℕ)
+    → (columnOf (turned which b) j + columnOf b j) % 2 ≡ columnOf (oneFor which) j % 2
+column-turned which b bit j = sum-turned (λ g. which (8 * g + 9 + j)) (λ g. b (8 * g + 9 + j)) (λ g. bit (8 * g + 9 + j)) 15
+
+-- where a check bit is told the level tells bit j of a group, 1 to 6, and column j has no other turned bit: computed at each level
+abbrev columnRule : ℕ → Bool
+columnRule i = pick (eqb (refusalAt i) badCheck) (eqb (columnOf (oneFor (beside i)) (i % 8 - 2 + 1)) 1) true
+
+every-column : every columnRule 129 ≡ true
+unfolding every sumOf
+every-column = refl
+
+one-in-column : (i : ℕ) → 8 < i → i < 127 → 1 < i % 8 → columnOf (oneFor (beside i)) (i % 8 - 2 + 1) ≡ 1
+one-in-column i h l m =
+    let told : refusalAt i ≡ badCheck = rw (lt-leb i 8 h, lt-leb 127 i l, lt-leb (i % 8) 1 m) in
+    let one = eqb (columnOf (oneFor (beside i)) (i % 8 - 2 + 1)) 1 in
+    eqb-true _ _ (sym (ap (λ (n : ℕ). pick (eqb n badCheck) one true) told) ∙ every-at columnRule 129 every-column i (omega arith))
 
 -- ---- second step: two neighbouring bits of a good frame turned break the start group, a mark, the final one, or a check column
 
@@ -130,17 +153,13 @@ module _ (b : ℕ → ℕ) (bit : (n : ℕ) → b n ≤ 1) (good : goodFrame b �
       ap₂ both (every-all _ 15 (λ g k. eq-eqb _ 1 (untouched (8 * g + 9) (λ e. omega arith) (λ e. omega arith) ∙ mark-one b good g k)))
       (eq-eqb _ 1 (untouched 128 (λ e. omega arith) (λ e. omega arith) ∙ final-one b good))
 
-  -- anywhere else: bit j of a group, one of the first six, and the bit after it are turned; column j has one turned bit, so its count is even
+  -- anywhere else: column j of the bit that the level tells has one turned bit, so its count is even
   pub check-breaks : 8 < i → i < 127 → 1 < i % 8 → checksGood (turned (beside i) b) ≡ false
   check-breaks h l m =
       let j = i % 8 - 2 in
-      let g = i / 8 - 1 in
-      let at : 8 * g + 9 + (j + 1) ≡ i = omega arith in
-      let one : turned (beside i) b (8 * g + 9 + (j + 1)) + b (8 * g + 9 + (j + 1)) ≡ 1 = omega (arith, touched (8 * g + 9 + (j + 1)) (omega arith) (omega arith), bit (8 * g + 9 + (j + 1))) in
-      let odd : (columnOf (turned (beside i) b) (j + 1) + columnOf b (j + 1)) % 2 ≡ 1 =
-      sum-one-turned (λ k. turned (beside i) b (8 * k + 9 + (j + 1))) (λ k. b (8 * k + 9 + (j + 1))) 15 g (omega arith) one
-      (λ k _ d. untouched (8 * k + 9 + (j + 1)) (λ e. d (omega arith)) (λ e. omega arith)) in
-      every-fails _ 6 j (omega arith) (ne-eqb (columnOf (turned (beside i) b) (j + 1) % 2) 1 (λ e. omega (arith, e, odd, column-odd b good j (omega arith))))
+      every-fails _ 6 j (omega arith)
+      (ne-eqb (columnOf (turned (beside i) b) (j + 1) % 2) 1
+      (λ e. omega (arith, e, column-turned (beside i) b bit (j + 1), one-in-column i h l m, column-odd b good j (omega arith))))
 
   -- so the verdict is told by where the level lies
   pub neighbours-break : i ≤ 128 → frameVerdict (turned (beside i) b) ≡ numbered (refusalAt i)

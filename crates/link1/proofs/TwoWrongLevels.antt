@@ -20,30 +20,15 @@ use Rattle.bits.proofs.OctetLaws.{bit-lt}
 use Rattle.frame.proofs.FrameLaws.{verdict-frame, good-ext, start-zero, mark-one, final-one, column-odd}
 use Rattle.line.proofs.WindowLaws.{Bits}
 use Rattle.line.proofs.Demand3.{ends-in}
-use Rattle.line.proofs.OneWrongLevel.{changed-levels, changed-length, bits-turned, decoded-length, wrong-levels, wrong-size, wrong-length, wrong-bits}
+use Rattle.line.proofs.OneWrongLevel.{oneFor, column-turned, changed-levels, changed-length, bits-turned, decoded-length, wrong-levels, wrong-size, wrong-length, wrong-bits}
 
 -- ---- what is noticed depends on which bits are turned, and not on the frame
-
--- a one for each bit that is turned
-abbrev oneFor : (ℕ → Bool) → ℕ → ℕ
-oneFor d n = pick (d n) 1 0
 
 -- no bit of the start group, no mark and not the final one are among them, and of each check column an even number
 abbrev unnoticed : (ℕ → Bool) → Bool
 unnoticed d =
     both (every (λ i. not (d (i + 1))) 8)
     (both (both (every (λ g. not (d (8 * g + 9))) 15) (not (d 128))) (every (λ i. eqb (columnOf (oneFor d) (i + 1) % 2) 0) 6))
-
--- a sum of bits changes by an odd number where an odd number of the bits is turned
-sum-turned : (d : ℕ → Bool) (f : ℕ → ℕ) → ((i : ℕ) → f i ≤ 1) → (n : ℕ) → (sumOf (turned d f) n + sumOf f n) % 2 ≡ sumOf (oneFor d) n % 2
-unfolding sumOf
-sum-turned d f small zero = refl
-sum-turned d f small (suc n) = go (d n) (sum-turned d f small n)
-  where
-    go : (t : Bool) → (sumOf (turned d f) n + sumOf f n) % 2 ≡ sumOf (oneFor d) n % 2
-        → (pick t (1 - f n) (f n) + sumOf (turned d f) n + (f n + sumOf f n)) % 2 ≡ (pick t 1 0 + sumOf (oneFor d) n) % 2
-    go true e = omega (arith, small n)
-    go false e = omega arith
 
 module _ (d : ℕ → Bool) (b : ℕ → ℕ) (small : (n : ℕ) → b n ≤ 1) (good : goodFrame b ≡ true) where
   zero-seen : (n : ℕ) → b n ≡ 0 → eqb (turned d b n) 0 ≡ not (d n)
@@ -62,8 +47,7 @@ module _ (d : ℕ → Bool) (b : ℕ → ℕ) (small : (n : ℕ) → b n ≤ 1) 
 
   column-seen : (i : ℕ) → i < 6 → eqb (columnOf (turned d b) (i + 1) % 2) 1 ≡ eqb (columnOf (oneFor d) (i + 1) % 2) 0
   column-seen i h =
-      let p : (columnOf (turned d b) (i + 1) + columnOf b (i + 1)) % 2 ≡ columnOf (oneFor d) (i + 1) % 2 =
-      sum-turned (λ g. d (8 * g + 9 + (i + 1))) (λ g. b (8 * g + 9 + (i + 1))) (λ g. small (8 * g + 9 + (i + 1))) 15 in
+      let p = column-turned d b small (i + 1) in
       let o = column-odd b good i h in
       let e : columnOf (turned d b) (i + 1) % 2 ≡ 1 - columnOf (oneFor d) (i + 1) % 2 = omega arith in
       rw e (go (columnOf (oneFor d) (i + 1) % 2) (omega arith))
