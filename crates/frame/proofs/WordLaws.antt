@@ -7,10 +7,10 @@ use native.Mathlib.Nat.{mod-lt, mod-eq-of-lt}
 use native.Mathlib.Omega.{arith}
 use borrow.Author.Tests.{ne-eqb, le-leb, lt-leb}
 use lib.Dec.{eqb, leb, lit<, lit≤}
-use lib.ListN.{length, getD}
+use lib.ListN.{length}
 use Rattle.bits.specs.Tests.{pick}
 use Rattle.bits.specs.Numbers.{sumOf}
-use Rattle.bits.specs.Octets.{bitAt, octetsOf}
+use Rattle.bits.specs.Octets.{AreOctets, bitAt, octetsOf}
 use Rattle.frame.specs.Frame.{columnOf, goodFrame}
 use Rattle.frame.specs.Words.{placeOf, wordOf, messageBit, dataBit, checkBit, groupBit, frameOf, imageOf}
 use Rattle.bits.proofs.TestLaws.{by-lt}
@@ -186,14 +186,14 @@ module _ (first second : ℕ) where
   pub image-second : second < 2 ^ 49 → wordOf (bitAt (imageOf first second)) 2 ≡ second
   image-second h = image-word 2 (lit≤ tt) (lit≤ tt) h
 
-module _ (image : List ℕ) (size : length image ≡ 16) (octets : (k : ℕ) → getD image k 0 < 256) (good : goodFrame (bitAt image) ≡ true) where
+module _ (image : List ℕ) (size : length image ≡ 16) (octets : AreOctets image) (good : goodFrame (bitAt image) ≡ true) where
   -- a good image is the image of its words
   pub image-back : imageOf (wordOf (bitAt image) 1) (wordOf (bitAt image) 2) ≡ image
   image-back = image-frame (bitAt image) (bit-lt image) good ∙ octets-bits image 16 size octets
 
 -- so no two good images share their words
 pub words-tell : (s t : List ℕ)
-    → length s ≡ 16 → ((k : ℕ) → getD s k 0 < 256) → goodFrame (bitAt s) ≡ true
-    → length t ≡ 16 → ((k : ℕ) → getD t k 0 < 256) → goodFrame (bitAt t) ≡ true
+    → length s ≡ 16 → AreOctets s → goodFrame (bitAt s) ≡ true
+    → length t ≡ 16 → AreOctets t → goodFrame (bitAt t) ≡ true
     → wordOf (bitAt s) 1 ≡ wordOf (bitAt t) 1 → wordOf (bitAt s) 2 ≡ wordOf (bitAt t) 2 → s ≡ t
 words-tell s t ls os gs lt ot gt e₁ e₂ = sym (image-back s ls os gs) ∙ ap₂ imageOf e₁ e₂ ∙ image-back t lt ot gt

@@ -9,7 +9,7 @@ use borrow.Author.Tests.{le-leb, lt-leb, leb-true, ltb-true, eq-eqb, ne-eqb}
 use lib.Dec.{eqb, leb}
 use lib.ListN.{length, getD, length-append}
 use Rattle.bits.specs.Tests.{pick, both}
-use Rattle.bits.specs.Octets.{bitAt}
+use Rattle.bits.specs.Octets.{AreOctets, bitAt}
 use Rattle.capture.specs.Search.{goodAt}
 use Rattle.octets.specs.Feeding.{fedTo, heardAt}
 use Rattle.octets.specs.Hearing.{framedAt}
@@ -86,7 +86,7 @@ module _ (capture : List ℕ) where
 
 -- ---- what the octet receiver says
 
-module _ (capture : List ℕ) (octets : (k : ℕ) → getD capture k 0 < 256) where
+module _ (capture : List ℕ) (octets : AreOctets capture) where
   framed-is : (k j : ℕ) → k < length capture → 1 ≤ j → j ≤ 8 → framedAt (heardAt capture k) j ≡ endsWith capture (8 * k + j)
   unfolding endsWith goodAt
   framed-is k j h p q =

@@ -6,7 +6,8 @@ use Prim.Native.Nat.{ℕ, zero, suc, _+_, _*_, _≤_, _<_}
 use native.Mathlib.Numerals.{add-one}
 use native.Mathlib.Omega.{arith}
 use borrow.Author.Tests.{lt-ltb, le-ltb}
-use lib.ListN.{length, getD, length-append}
+use lib.ListN.{length, length-append}
+use Rattle.bits.specs.Octets.{AreOctets}
 use Rattle.bits.specs.Tests.{pick}
 use Rattle.text.specs.Text.{decThen, row, tooLong}
 use Rattle.text.specs.Wrote.{Wrote}
@@ -67,7 +68,7 @@ module _ (capture d : List ℕ) where
   lines-none = put-none d 0
 
   -- one octet more
-  pub lines-more : ((k : ℕ) → getD capture k 0 < 256) → (k : ℕ) → k < length capture → {h : HeardOctet} {e f : List ℕ} {r s : ℕ} → h ≡ heardAt capture k → r ≤ length d
+  pub lines-more : AreOctets capture → (k : ℕ) → k < length capture → {h : HeardOctet} {e f : List ℕ} {r s : ℕ} → h ≡ heardAt capture k → r ≤ length d
       → Wrote d 0 (linesOf (endsTo capture (8 * k))) e r → Wrote e r (linesOf (endIn k h)) f s → Wrote d 0 (linesOf (endsTo capture (8 * (k + 1)))) f s
   lines-more octets k inside is room w v =
       let next : 8 * k + 8 ≡ 8 * (k + 1) = omega arith in

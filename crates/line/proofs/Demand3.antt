@@ -2,14 +2,14 @@
 use mathlib.Core.Path.{_≡_, refl, sym, ap, ap₂, _∙_}
 use mathlib.Core.Bool.{Bool, true, false}
 use mathlib.Core.List.{List, [], _∷_, _++_, map, append-assoc}
-use Prim.Native.Nat.{ℕ, _+_, _-_, _≤_, _<_}
+use Prim.Native.Nat.{ℕ, _+_, _-_, _≤_}
 use native.Mathlib.Omega.{arith}
 use borrow.Author.Tests.{le-ltb, le-leb, ltb-false, leb-true, eqb-true, not-true}
 use lib.Dec.{leb}
 use lib.ListN.{length, getD, length-append, List·getD-append}
 use lib.Seq.{getD-append-add}
 use Rattle.bits.specs.Tests.{pick, both}
-use Rattle.bits.specs.Octets.{bitAt, octetsOf}
+use Rattle.bits.specs.Octets.{AreOctets, bitAt, octetsOf}
 use Rattle.refusal.specs.Refusals.{numbered, success}
 use Rattle.refusal.specs.declared.Refusal.{Refusal}
 use Rattle.frame.specs.Frame.{goodFrame}
@@ -192,7 +192,7 @@ module _ (image : List ℕ) (previous : ℕ) (buffer : List ℕ) (sent : sendRef
   sent-bits = ap bitsOf (kept-all sent-levels) ∙ rw levels-sent (told-bits previous level image-bits)
 
   -- a fresh receiver given these hands over the same image on the last
-  pub sent-heard : ((k : ℕ) → getD image k 0 < 256) → (ls : List ℕ) (l : ℕ) → ls ++ l ∷ [] ≡ previous ∷ sendLevels image previous buffer
+  pub sent-heard : AreOctets image → (ls : List ℕ) (l : ℕ) → ls ++ l ∷ [] ≡ previous ∷ sendLevels image previous buffer
       → heardOf (run ls) l ≡ handed (ls ++ l ∷ []) image
   sent-heard octet ls l e =
       let all : Bits (ls ++ l ∷ []) = rw e sent-levels in

@@ -9,7 +9,7 @@ use borrow.Author.Tests.{le-ltb, le-leb, lt-leb, leb-true}
 use lib.Dec.{leb}
 use lib.ListN.{length, getD}
 use Rattle.bits.specs.Tests.{both}
-use Rattle.bits.specs.Octets.{bitAt, octetsOf}
+use Rattle.bits.specs.Octets.{AreOctets, bitAt, octetsOf}
 use Rattle.frame.specs.Frame.{goodFrame, frameAt}
 use Rattle.line.specs.Levels.{bitsOf, decoded}
 use Rattle.line.specs.Hearing.{lastFrame, endsGood, toldBy}
@@ -73,7 +73,7 @@ ends-at octets n =
     (λ few. ap (λ (t : Bool). both t (goodFrame (lastFrame (firstBits octets n)))) (lt-leb 128 n few) ∙ sym (ap (λ (t : Bool). both t (goodFrame (frameAt octets (n - 128)))) (lt-leb 128 n few)))
     (λ enough. ap (both (leb 128 n)) (good-ext _ _ (last-bit octets n enough)))
 
-module _ (octets : List ℕ) (small : (k : ℕ) → getD octets k 0 < 256) where
+module _ (octets : List ℕ) (small : AreOctets octets) where
   -- At bit j of octet k the receiver hands over a frame exactly when the bits that have come end in a good one, and then that one.
   pub octets-told : (k j : ℕ) → 1 ≤ j → j ≤ 8 → handedAt (heardAt octets k) j ≡ toldBy (firstBits octets (8 * k + j))
   octets-told k zero p q = absurd (omega arith)

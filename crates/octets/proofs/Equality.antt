@@ -11,7 +11,7 @@ use lib.Dec.{eqb, lit<}
 use lib.ListN.{getD}
 use Rattle.bits.specs.Tests.{pick, both}
 use Rattle.bits.specs.Numbers.{tab}
-use Rattle.bits.specs.Octets.{bitAt}
+use Rattle.bits.specs.Octets.{AreOctets, bitAt}
 use Rattle.line.specs.Levels.{decoded}
 use Rattle.line.specs.Machine.{noImage, handedOf, freshOf, heardOf, run}
 use Rattle.line.specs.declared.Handed.{Handed}
@@ -46,7 +46,7 @@ val-octet a octets k h (suc j) l =
 pub fresh-same : freshOctets .window ≡ freshOf .window
 fresh-same = refl
 
-module _ (octets : List ℕ) (small : (k : ℕ) → getD octets k 0 < 256) where
+module _ (octets : List ℕ) (small : AreOctets octets) where
   -- a window that holds the first 8 k bits, with j bits more
   more-low : (w : Window) (k j : ℕ) → j ≤ 8 → Low w (valFrom idle (firstBits octets (8 * k)))
       → Low (taken w (getD octets k 0) j) (valFrom idle (firstBits octets (8 * k + j)))
@@ -107,7 +107,7 @@ answer-at w o a b octet j p q = go (endsAt w o j) refl
 
 -- For any run of octets, and levels whose decoded bits are the bits of octets 0 to k - 1 and then the first j bits of octet k: at its
 -- last level the first receiver hands over what the octet receiver hands over at bit j of octet k.
-module _ (octets : List ℕ) (small : (k : ℕ) → getD octets k 0 < 256) (ls : List ℕ) (l k j : ℕ) (level : l ≤ 1) (least : 1 ≤ j) (most : j ≤ 8)
+module _ (octets : List ℕ) (small : AreOctets octets) (ls : List ℕ) (l k j : ℕ) (level : l ≤ 1) (least : 1 ≤ j) (most : j ≤ 8)
     (same : decoded (ls ++ l ∷ []) ≡ firstBits octets (8 * k + j)) where
   pub equality : handedBy (heardOf (run ls) l) ≡ handedAt (heardAt octets k) j
   equality =

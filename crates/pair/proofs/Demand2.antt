@@ -4,12 +4,12 @@
 use mathlib.Core.Path.{_≡_, refl, sym, ap, ap₂, _∙_}
 use mathlib.Core.Bool.{true}
 use mathlib.Core.List.{List}
-use Prim.Native.Nat.{ℕ, _≤_, _<_}
+use Prim.Native.Nat.{ℕ, _≤_}
 use borrow.Author.Tests.{eqb-true}
 use lib.Dec.{lit≤}
-use lib.ListN.{length, getD}
+use lib.ListN.{length}
 use Rattle.bits.specs.Tests.{both}
-use Rattle.bits.specs.Octets.{bitAt}
+use Rattle.bits.specs.Octets.{AreOctets, bitAt}
 use Rattle.bits.specs.declared.Trouble.the-variants.{Nothing}
 use Rattle.refusal.specs.Refusals.{numbered, success}
 use Rattle.refusal.specs.declared.Refusal.{Refusal}
@@ -154,7 +154,7 @@ module _ (first second : Message) where
       → (closeRefusal first second buffer ≡ numbered success) × (closeImage first second buffer ≡ zeroedImage image)
   zeroed-closes image opens buffer sixteen = let c = opened-closes first second (zeroedImage image) opens buffer sixteen in (c .0, c .1 ∙ zeroed-once image)
 
-  module _ (image : List ℕ) (opens : openOf image ≡ Pair first second) (octets : (k : ℕ) → getD image k 0 < 256) (clear : Clear image) where
+  module _ (image : List ℕ) (opens : openOf image ≡ Pair first second) (octets : AreOctets image) (clear : Clear image) where
     -- an image that opens, and has no digit left in an absent mode's code, is its own zeroed image
     pub clear-zeroed : zeroedImage image ≡ image
     clear-zeroed = clear-own image (size first second image opens) octets (good first second image opens) clear

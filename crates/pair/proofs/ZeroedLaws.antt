@@ -6,9 +6,9 @@ use Prim.Native.Nat.{ℕ, _+_, _-_, _*_, _/_, _%_, _≤_, _<_}
 use native.Mathlib.Nat.{mod-lt}
 use native.Mathlib.Omega.{arith}
 use lib.Dec.{eqb, lit<, lit≤}
-use lib.ListN.{length, getD}
+use lib.ListN.{length}
 use Rattle.bits.specs.Tests.{pick, both, isBetween}
-use Rattle.bits.specs.Octets.{bitAt, octetsOf}
+use Rattle.bits.specs.Octets.{AreOctets, bitAt, octetsOf}
 use Rattle.frame.specs.Frame.{goodFrame}
 use Rattle.frame.specs.Words.{placeOf, wordOf, imageOf}
 use Rattle.message.specs.Zeroed.{zeroedBit, NoDigits}
@@ -123,7 +123,7 @@ module _ (image : List ℕ) where
   pub own-clear : zeroedImage image ≡ image → Clear image
   own-clear e = (message-clear e 1 (lit≤ tt) (lit≤ tt), message-clear e 2 (lit≤ tt) (lit≤ tt))
 
-  module _ (size : length image ≡ 16) (octets : (k : ℕ) → getD image k 0 < 256) (good : goodFrame (bitAt image) ≡ true) where
+  module _ (size : length image ≡ 16) (octets : AreOctets image) (good : goodFrame (bitAt image) ≡ true) where
     clear-word : (k : ℕ) → 1 ≤ k → k ≤ 2 → NoDigits (messageOf (bitAt image) k) → wordOf (zeroedFrame (bitAt image)) k ≡ wordOf (bitAt image) k
     clear-word k h l none =
         sym (zeroed-word (bitAt image) (bit-lt image) good k h l) ∙ num-ext _ _ 49 (λ i n. clear-stays (messageOf (bitAt image) k) none (i + 1) (omega arith) (omega arith))
