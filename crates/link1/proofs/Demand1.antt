@@ -35,7 +35,8 @@ use Rattle.pair.specs.declared.Opened.{Opened}
 use Rattle.pair.specs.declared.Opened.the-variants as O
 use Rattle.relay.specs.Relay.{firstMessage, secondMessage, relayChecks, relayRefusal, imageShifted, relayImage}
 use Rattle.bits.proofs.TestLaws.{zero-one}
-use Rattle.refusal.proofs.CheckLaws.{ofTable, first-of-table, Refuses, buffer-left, refusal-told}
+use Rattle.refusal.specs.Table.{ofTable}
+use Rattle.refusal.proofs.CheckLaws.{first-of-table, Refuses, buffer-left, refusal-told}
 use Rattle.pair.proofs.FirstTrouble.{open-bits, close-bits}
 use Rattle.relay.proofs.Theorems.{relay-bits}
 use Rattle.frame.proofs.verdict.Reads as verdict

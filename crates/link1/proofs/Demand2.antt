@@ -11,7 +11,7 @@ pub use Rattle.pair.proofs.ZeroedLaws.{own-clear}
 -- a legal pair opens again unchanged; exactly the legal pairs close
 pub use Rattle.pair.proofs.Demand2.{closed-opens, legal-closes, closes-legal}
 -- the table that the code has says what the definition says, has so many yes, and keeps the papers' rules at any two kinds
-pub use Rattle.pair.proofs.Table.{pair-at, pairs-counted, pair-rules}
+pub use Rattle.pair.proofs.PairRules.{pairs-counted, pair-rules}
 -- a search gives the first good frame's position, and where it gives none there is none
 pub use Rattle.capture.proofs.SearchLaws.{found-least, none-found}
 -- a relay that is not refused writes an image that opens as the pair that came, each position at the steps nearest to the exact sums in feet and all else as it

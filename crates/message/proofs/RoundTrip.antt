@@ -18,7 +18,7 @@ use Rattle.bits.specs.Rules.{widthsOf, total}
 use Rattle.bits.specs.declared.Trouble.the-variants.{Nothing}
 use Rattle.kind.specs.Layouts.{labelOf, layoutOf, wholeOf, allKinds, iffLayout}
 use Rattle.message.specs.Messages.{modeOf, presenceOf, codeOf, iffFrom, iffParts, madeOf, kindOf, partsOf}
-use Rattle.kind.specs.Labels.{kindFrom, labelledOf}
+use Rattle.kind.specs.Labels.{kindFrom, labelledOf, kindNamed}
 use Rattle.message.specs.Codec.{contentTrouble, messageIn, messageTrouble, messageWord}
 use Rattle.message.specs.Zeroed.{isIff, zeroedBit}
 use Rattle.kind.specs.declared.Kind.{Kind}
@@ -175,6 +175,36 @@ module _ (b : ℕ → ℕ) (bits : (i : ℕ) → b i < 2) where
   pub read-written : (k : Kind) (msg : Message) → labelledOf (wordFrom b) ≡ Known k → contentTrouble k (wordFrom b) ≡ Nothing → messageIn k (wordFrom b) ≡ msg
       → Writes msg (wordFrom (zeroedBit b))
   read-written k msg l g is = subst (λ (n : Message). Writes n (wordFrom (zeroedBit b))) is (written k l g)
+
+-- ---- the digits of absent modes are ignored (02, item 2): with them zeroed a word has the same label, the same first trouble and the same message
+
+-- what is read of a word
+abbrev kindIn : ℕ → Kind
+kindIn w = kindNamed (labelledOf w)
+
+abbrev pub ReadAlike : ℕ → ℕ → Type 0
+ReadAlike v w = (labelledOf v ≡ labelledOf w) × (contentTrouble (kindIn v) v ≡ contentTrouble (kindIn w) w) × (messageIn (kindIn v) v ≡ messageIn (kindIn w) w)
+
+module _ (b : ℕ → ℕ) (bits : (i : ℕ) → b i < 2) where
+  pub digits-unread : ReadAlike (wordFrom (zeroedBit b)) (wordFrom b)
+  digits-unread = go (isIff b) refl
+    where
+      z : ℕ
+      z = wordFrom (zeroedBit b)
+
+      w : ℕ
+      w = wordFrom b
+
+      go : (t : Bool) → isIff b ≡ t → ReadAlike z w
+      go false e =
+          let same : z ≡ w = num-ext _ _ 49 (λ i _. other-stays b e (i + 1)) in
+          (ap labelledOf same, ap (λ (v : ℕ). contentTrouble (kindIn v) v) same, ap (λ (v : ℕ). messageIn (kindIn v) v) same)
+      go true e =
+          let lz : labelledOf z ≡ Known S3 = ap (kindFrom allKinds) (label-is (zeroedBit b) (zeroed-lt b bits) ∙ eqb-true _ _ (zeroed-iff b ∙ e)) in
+          let lw : labelledOf w ≡ Known S3 = ap (kindFrom allKinds) (label-is b bits ∙ eqb-true _ _ e) in
+          let said : messageIn S3 z ≡ messageIn S3 w =
+          ap (λ (vs : _). m.S3 (iffFrom vs)) (iff-split b bits e) ∙ ap m.S3 (iff-from-parts (iffFrom (split 6 iffLayout w))) in
+          (lz ∙ sym lw, rw (lz, lw) (iff-trouble b bits), rw (lz, lw) said)
 
 -- what a word holds is of the word's kind
 pub kind-read : (k : Kind) (w : ℕ) → kindOf (messageIn k w) ≡ k

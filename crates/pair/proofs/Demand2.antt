@@ -1,11 +1,12 @@
 -- DEMAND 2: what opens closes to its zeroed image, which opens as the same pair and closes to itself; it is its own zeroed image exactly if no
--- absent mode's code has a digit left; a pair that closes opens again unchanged; and exactly the pairs of the table with legal content close.
+-- absent mode's code has a digit left; which images open, exactly; a pair that closes opens again unchanged; and exactly the pairs of the table with legal content close.
 -- Assumes nothing.
 use mathlib.Core.Path.{_≡_, refl, sym, ap, ap₂, _∙_}
 use mathlib.Core.Bool.{true}
 use mathlib.Core.List.{List}
+use mathlib.Core.Logic.{_↔_}
 use Prim.Native.Nat.{ℕ, _≤_}
-use borrow.Author.Tests.{eqb-true}
+use borrow.Author.Tests.{eqb-true, eq-eqb}
 use lib.Dec.{lit≤}
 use lib.ListN.{length}
 use Rattle.bits.specs.Tests.{both}
@@ -26,9 +27,9 @@ use Rattle.pair.specs.Opening.{isLabelled, wordKind, wordTrouble, wordMe
 use Rattle.pair.specs.Closing.{closeChecks, closeRefusal, closeImage}
 use Rattle.pair.specs.Zeroed.{messageOf, zeroedFrame, zeroedImage, Clear}
 use Rattle.pair.specs.declared.Opened.the-variants.{Pair, Refused}
-use Rattle.bits.proofs.TestLaws.{clash, zero-one}
+use Rattle.bits.proofs.TestLaws.{clash, zero-one, both-true}
 use Rattle.bits.proofs.OctetLaws.{bit-lt}
-use Rattle.refusal.proofs.CheckLaws.{Passed, success-passed, answer-is}
+use Rattle.refusal.proofs.CheckLaws.{Passed, success-passed, passed-success, given, answer-is}
 use Rattle.frame.proofs.FrameLaws.{verdict-good, verdict-image}
 use Rattle.frame.proofs.WordLaws.{image-good, length-image, image-first, image-second}
 use Rattle.message.proofs.RoundTrip.{Writes, read-written, kind-read, written-read}
@@ -139,6 +140,44 @@ module _ (first second : Message) where
       ∙ sym (open-good s good)
       ∙ ap₂ openWords (image-first v w (written-read first v (x .one) .short)) (image-second v w (written-read second w (x .two) .short))
       ∙ closed-words v w x
+
+-- ---- an image opens exactly if all of this is so, and then as its two messages
+
+pub record Opening (image : List ℕ) : Type 0 where
+  pub size : length image ≡ 16
+  pub good : goodFrame (bitAt image) ≡ true
+  pub known-1 : isLabelled (firstWord image) ≡ true
+  pub known-2 : isLabelled (secondWord image) ≡ true
+  pub paired : pairOf (wordKind (firstWord image)) (wordKind (secondWord image)) ≡ true
+  pub fine-1 : wordTrouble (firstWord image) ≡ Nothing
+  pub fine-2 : wordTrouble (secondWord image) ≡ Nothing
+
+pub opens-exactly : (image : List ℕ) → (openOf image ≡ Pair (wordMessage (firstWord image)) (wordMessage (secondWord image))) ↔ Opening image
+unfolding openOf openRefusal goodFrame
+opens-exactly image = (to, from)
+  where
+    to : openOf image ≡ Pair (wordMessage (firstWord image)) (wordMessage (secondWord image)) → Opening image
+    to e =
+        let p = passed _ _ image e in
+        let q = p .1 .1 .1 .1 in
+        record {
+          size = size _ _ image e;
+          good = good _ _ image e;
+          known-1 = q .0;
+          known-2 = q .1 .0;
+          paired = q .1 .1 .0;
+          fine-1 = q .1 .1 .1 .0;
+          fine-2 = q .1 .1 .1 .1 .0;
+        }
+
+    from : Opening image → openOf image ≡ Pair (wordMessage (firstWord image)) (wordMessage (secondWord image))
+    from o =
+        let f = both-true (o .good) in
+        let g = both-true (f .1) in
+        given (openRefusal image) _ _
+        (ap (λ (r : Refusal). r .number)
+        (passed-success (openChecks image)
+        (eq-eqb _ _ (o .size), (f .0, (g .0, (g .1, (o .known-1, (o .known-2, (o .paired, (o .fine-1, (o .fine-2, tt)))))))))))
 
 -- ---- the zeroed image
 

@@ -2,7 +2,7 @@
 use mathlib.Core.Path.{_≡_, refl, sym, ap, ap₂, _∙_}
 use mathlib.Core.Bool.{Bool, true, false, not}
 use mathlib.Core.List.{List, [], _∷_, _++_}
-use mathlib.Core.Logic.{_⊎_, inl, inr}
+use mathlib.Core.Logic.{_↔_, _⊎_, inl, inr}
 use Prim.Native.Nat.{ℕ, _≤_}
 use native.Mathlib.Omega.{arith}
 use borrow.Author.Tests.{eq-eqb, ne-eqb, eqb-true, le-leb, lt-leb}
@@ -16,24 +16,15 @@ use Rattle.bits.specs.Trouble.{isNothing}
 use Rattle.bits.proofs.TestLaws.{both-true, between, in-between, clash}
 use Rattle.bits.proofs.LayoutLaws.{nothing-is}
 use Rattle.refusal.specs.Refusals.{success, outOfRange, noFrame, badPattern, spareBit, unusedCode, tooWide, numbered, causeNumber, insideAt, troubled}
+use Rattle.refusal.specs.Table.{ofTable, Step, standsAt, inOrder, isTold, among}
 use Rattle.refusal.specs.Checks.{Check, test, inside, isPassed, toldBy, firstRefusal, onSuccess, answered}
 use Rattle.refusal.specs.declared.Refusal.{Refusal}
 
 -- ---- a refusal of the table (01, 'Numbers a caller may get back'; 02, items 4 and 6)
 
--- a number of 1 to 10 that is not 8, place 0, 1 or 2, of 9 also 3 or 4, and bit 0
+-- a refusal of a test, with a number of 1 to 10
 abbrev isPlain : Refusal → Bool
-isPlain r =
-    both (isBetween 1 noFrame (r .number))
-    (both (not (eqb (r .number) 8)) (both (leb (r .place) (pick (eqb (r .number) outOfRange) 4 2)) (eqb (r .bit) 0)))
-
--- a number of 12 to 15, message 1 or 2, and a bit of 7 to 49
-abbrev isInside : Refusal → Bool
-isInside r = both (isBetween badPattern tooWide (r .number)) (both (isBetween 1 2 (r .place)) (isBetween 7 49 (r .bit)))
-
--- success with place 0 and bit 0, or one of these
-abbrev pub ofTable : Refusal → Bool
-ofTable r = pick (eqb (r .number) success) (both (eqb (r .place) 0) (eqb (r .bit) 0)) (pick (leb (r .number) noFrame) (isPlain r) (isInside r))
+isPlain r = both (isBetween 1 noFrame (r .number)) (ofTable r)
 
 -- every check of a list, if it is not passed, refuses with a number of the table
 abbrev refuses : Check → Bool
@@ -55,7 +46,7 @@ AllInMessage (test passed r ∷ cs) = AllInMessage cs
 AllInMessage (inside place t ∷ cs) = InMessage t × AllInMessage cs
 
 plain-number : (r : Refusal) → isPlain r ≡ true → (1 ≤ r .number) × (r .number ≤ noFrame)
-plain-number r e = in-between 1 noFrame (r .number) (both-true e .0)
+plain-number r e = in-between 1 noFrame (r .number) (both-true {a = isBetween 1 noFrame (r .number)} {b = ofTable r} e .0)
 
 cause-from : (c : Cause) → isBetween badPattern tooWide (causeNumber c) ≡ true
 cause-from Pattern = refl
@@ -79,21 +70,20 @@ not-success (test passed r) e f z = omega (arith, plain-number r e .0)
 not-success (inside place Nothing) e f z = clash refl f
 not-success (inside place (Wrong c b)) e f z = wrong-refuses place c b z
 
-plain-of-table : (r : Refusal) → isPlain r ≡ true → ofTable r ≡ true
-plain-of-table r e =
-    let n = plain-number r e in
-    let h : r .number ≡ success → ⊥ = λ z. omega (arith, n .0) in
-    ap (λ (t : Bool). pick t (both (eqb (r .place) 0) (eqb (r .bit) 0)) (pick (leb (r .number) noFrame) (isPlain r) (isInside r))) (ne-eqb _ _ h)
-    ∙ ap (λ (t : Bool). pick t (isPlain r) (isInside r)) (le-leb _ _ (n .1)) ∙ e
-
 inside-of-table : (place : ℕ) (c : Cause) (b : ℕ) → isBetween 1 2 place ≡ true → InMessage (Wrong c b) → ofTable (insideAt place c b) ≡ true
-inside-of-table place c b e (low, high) =
-    let g = cause-number c in
-    let h : causeNumber c ≡ success → ⊥ = λ z. omega (arith, g) in
-    rw (ne-eqb _ _ h, lt-leb (causeNumber c) noFrame (omega (arith, g)), cause-from c, e, between 7 49 b low high)
+inside-of-table place c b e (low, high) = go c
+  where
+    row : both (isBetween 1 2 place) (isBetween 7 49 b) ≡ true
+    row = ap₂ both e (between 7 49 b low high)
+
+    go : (c : Cause) → ofTable (insideAt place c b) ≡ true
+    go Pattern = row
+    go Spare = row
+    go Unused = row
+    go TooWide = row
 
 told-of-table : (c : Check) → refuses c ≡ true → AllInMessage (c ∷ []) → isPassed c ≡ false → ofTable (toldBy c) ≡ true
-told-of-table (test passed r) e m f = plain-of-table r e
+told-of-table (test passed r) e m f = both-true {a = isBetween 1 noFrame (r .number)} {b = ofTable r} e .1
 told-of-table (inside place Nothing) e m f = absurd (clash refl f)
 told-of-table (inside place (Wrong c b)) e m f = inside-of-table place c b e (m .0)
 
@@ -112,6 +102,56 @@ first-of-table (c ∷ cs) e m = go (isPassed c) refl (first-of-table cs (heads c
     go : (t : Bool) → isPassed c ≡ t → ofTable (firstRefusal cs) ≡ true → ofTable (pick t (firstRefusal cs) (toldBy c)) ≡ true
     go true f ih = ih
     go false f ih = told-of-table c (heads c cs e .0) (bits-of c cs m .0) f
+
+-- ---- what is told stands in the order of the checks
+
+-- what is wrong inside a message has one of the numbers lo to hi, and so has every trouble of a list of checks
+abbrev pub Numbered : ℕ → ℕ → Trouble → Type 0
+Numbered lo hi Nothing = Unit {0}
+Numbered lo hi (Wrong cause bit) = (lo ≤ causeNumber cause) × (causeNumber cause ≤ hi)
+
+abbrev pub AllNumbered : ℕ → ℕ → List Check → Type 0
+AllNumbered lo hi [] = Unit {0}
+AllNumbered lo hi (test passed r ∷ cs) = AllNumbered lo hi cs
+AllNumbered lo hi (inside place t ∷ cs) = Numbered lo hi t × AllNumbered lo hi cs
+
+module _ (lo hi : ℕ) where
+  numbers-of : (c : Check) (cs : List Check) → AllNumbered lo hi (c ∷ cs) → AllNumbered lo hi (c ∷ []) × AllNumbered lo hi cs
+  numbers-of (test passed r) cs n = (tt, n)
+  numbers-of (inside place t) cs n = ((n .0, tt), n .1)
+
+  told-at : (c : Check) (s : Step) → standsAt lo hi c s ≡ true → AllNumbered lo hi (c ∷ []) → isPassed c ≡ false → isTold s (toldBy c) ≡ true
+  told-at (test passed r) s e n f =
+      let p = both-true {a = eqb (r .number) (s .from)} {b = both (eqb (r .number) (s .to)) (eqb (r .place) (s .place))} e in
+      let q = both-true {a = eqb (r .number) (s .to)} {b = eqb (r .place) (s .place)} (p .1) in
+      let low : r .number ≡ s .from = eqb-true _ _ (p .0) in
+      let high : r .number ≡ s .to = eqb-true _ _ (q .0) in
+      ap₂ both (between (s .from) (s .to) (r .number) (omega arith) (omega arith)) (q .1)
+  told-at (inside place Nothing) s e n f = absurd (clash refl f)
+  told-at (inside place (Wrong c b)) s e n f =
+      let p = both-true {a = eqb (s .from) lo} {b = both (eqb (s .to) hi) (eqb place (s .place))} e in
+      let q = both-true {a = eqb (s .to) hi} {b = eqb place (s .place)} (p .1) in
+      let low : s .from ≡ lo = eqb-true _ _ (p .0) in
+      let high : s .to ≡ hi = eqb-true _ _ (q .0) in
+      let w = n .0 in
+      ap₂ both (between (s .from) (s .to) (causeNumber c) (omega (arith, w .0)) (omega (arith, w .1))) (q .1)
+
+  pub told-among : (cs : List Check) (order : List Step) → inOrder lo hi cs order ≡ true → AllNumbered lo hi cs → among order (firstRefusal cs) ≡ true
+  told-among [] [] e n = refl
+  told-among [] (s ∷ ss) e n = absurd (clash e refl)
+  told-among (c ∷ cs) [] e n = absurd (clash e refl)
+  told-among (c ∷ cs) (s ∷ ss) e n = go (isPassed c) refl (told-among cs ss (p .1) (numbers-of c cs n .1))
+    where
+      p : (standsAt lo hi c s ≡ true) × (inOrder lo hi cs ss ≡ true)
+      p = both-true {a = standsAt lo hi c s} {b = inOrder lo hi cs ss} e
+
+      either : (t : Bool) {b : Bool} → b ≡ true → pick t true b ≡ true
+      either true f = refl
+      either false f = f
+
+      go : (t : Bool) → isPassed c ≡ t → among ss (firstRefusal cs) ≡ true → among (s ∷ ss) (pick t (firstRefusal cs) (toldBy c)) ≡ true
+      go true f ih = either (isTold s (firstRefusal cs)) ih
+      go false f ih = ap (λ (t : Bool). pick t true (among ss (toldBy c))) (told-at c s (p .0) (numbers-of c cs n .0) f)
 
 -- ---- a refusal of 12 to 15 is what is first wrong inside a message, and every check before it is passed
 
@@ -172,6 +212,9 @@ success-passed (c ∷ cs) e z = go (isPassed c) refl z (success-passed cs (heads
 pub passed-success : (cs : List Check) → Passed cs → firstRefusal cs ≡ numbered success
 passed-success [] p = refl
 passed-success (c ∷ cs) p = ap (λ (t : Bool). pick t (firstRefusal cs) (toldBy c)) (from-passes c (p .0)) ∙ passed-success cs (p .1)
+
+pub success-exactly : (cs : List Check) → allRefuse cs ≡ true → (firstRefusal cs ≡ numbered success) ↔ Passed cs
+success-exactly cs e = (λ z. success-passed cs e (ap (λ (r : Refusal). r .number) z), passed-success cs)
 
 -- success is number 0, place 0 and bit 0
 pub success-whole : (cs : List Check) → allRefuse cs ≡ true → firstRefusal cs .number ≡ success → firstRefusal cs ≡ numbered success
