@@ -1,18 +1,21 @@
--- DEMAND 1: each public call checks its own input; a refusal gives its number, place and bit, hands back the state that it was given
--- and writes nothing. For each public call that can refuse, of its own contract (`Post`, as in OneAnswer.antt): the refusal is one of
--- 01's table as 02 amends it; a success has number, place and bit 0; on a refusal the state or message is what was handed in, each lent buffer is as it
--- was, and the rest of the answer is zero. That no call stops, reads outside its buffer or runs on is what the prover shows of every
--- function by itself, so no law says it. Assumes nothing.
+-- DEMAND 1: no input, however damaged, makes it stop, read outside its buffer or run on. Each public call checks its own input. A refusal gives its number and place,
+-- hands back the state it was given and writes nothing. That no call stops, reads outside its buffer or runs on is what the prover shows of every function by itself, so no law says it. Over the
+-- calls' own contracts: no call asks anything of its caller; what is refused is of 01's table as 02 amends it (`ofTable`), and a success is number, place and bit 0; on a refusal
+-- each lent buffer and the state are as they were, and the rest of the answer is zero. Which numbers each call gives stands in Orders.antt. Assumes nothing.
 use mathlib.Core.Path.{_≡_, refl, ap, _∙_}
 use mathlib.Core.Bool.{Bool, true, false}
+use mathlib.Core.List.{List}
+use Prim.Native.Nat.{ℕ}
+use lib.IntN.{ℤ}
 use contract.Lifetimes.{Lfts}
-use denote.Ref.{now}
 use Rattle.bits.specs.Tests.{pick}
+use Rattle.refusal.specs.Table.{ofTable}
 use Rattle.refusal.specs.declared.Refusal.{Refusal}
 use Rattle.frame.specs.Frame.{imageChecks, verdictOf}
 use Rattle.line.specs.Levels.{refused}
 use Rattle.line.specs.Machine.{noImage, accepted, answerOf, refusedBy}
 use Rattle.line.specs.Sending.{levelsAfter, imageBits, sendChecks, sendRefusal, sendLevels}
+use Rattle.line.specs.declared.Receiver.{Receiver}
 use Rattle.line.specs.declared.Heard.{Heard}
 use Rattle.capture.specs.Search as searching
 use Rattle.capture.specs.declared.Found.{Found}
@@ -29,99 +32,169 @@ use Rattle.track.specs.declared.Tracked.{Tracked}
 use Rattle.track.specs.declared.Tracked.the-variants as T
 use Rattle.frame.specs.Words.{imageOf}
 use Rattle.message.specs.Codec.{messageWord}
+use Rattle.message.specs.declared.Message.{Message}
 use Rattle.pair.specs.Opening as opening
 use Rattle.pair.specs.Closing.{closeChecks, closeRefusal, closeImage}
 use Rattle.pair.specs.declared.Opened.{Opened}
 use Rattle.pair.specs.declared.Opened.the-variants as O
 use Rattle.relay.specs.Relay.{firstMessage, secondMessage, relayChecks, relayRefusal, imageShifted, relayImage}
 use Rattle.bits.proofs.TestLaws.{zero-one}
-use Rattle.refusal.specs.Table.{ofTable}
 use Rattle.refusal.proofs.CheckLaws.{first-of-table, Refuses, buffer-left, refusal-told}
 use Rattle.pair.proofs.FirstTrouble.{open-bits, close-bits}
 use Rattle.relay.proofs.Theorems.{relay-bits}
+use Rattle.refusal.proofs.Refusal.of.Reads as of
+use Rattle.refusal.proofs.Refusal.at.Reads as at
+use Rattle.refusal.proofs.Refusal.inside.Reads as inside
 use Rattle.frame.proofs.verdict.Reads as verdict
+use Rattle.line.proofs.Receiver.fresh.Reads as fresh
 use Rattle.line.proofs.Receiver.step.Reads as step
 use Rattle.line.proofs.send.Reads as send
+use Rattle.octets.proofs.OctetReceiver.fresh.Reads as fresh-octets
+use Rattle.octets.proofs.OctetReceiver.step.Reads as step-octet
 use Rattle.capture.proofs.search.Reads as search-call
-use Rattle.units.proofs.altitude.Reads as altitude
+use Rattle.capture.proofs.Found.refusal.Reads as found-refusal
+use Rattle.kind.proofs.label.Reads as label
+use Rattle.kind.proofs.kind_named.Reads as kind-named
+use Rattle.kind.proofs.Named.refusal.Reads as named-refusal
+use Rattle.message.proofs.kind_of.Reads as kind-of
 use Rattle.track.proofs.track_text.Reads as track-text
 use Rattle.track.proofs.track_number.Reads as track-number
-use Rattle.kind.proofs.kind_named.Reads as kind-named
+use Rattle.track.proofs.Tracked.refusal.Reads as tracked-refusal
 use Rattle.pair.proofs.open.Reads as open-call
+use Rattle.pair.proofs.Opened.refusal.Reads as opened-refusal
 use Rattle.pair.proofs.close.Reads as close
+use Rattle.units.proofs.altitude.Reads as altitude
+use Rattle.units.proofs.Height.refusal.Reads as height-refusal
 use Rattle.relay.proofs.relay.Reads as relay
--- what 12 to 15 tell (02, item 4): the first message that has a trouble, and of its troubles the cause and the bit of the first; opening never tells
--- 15, closing neither 12 nor 13; what a relay tells, opening told
-pub use Rattle.pair.proofs.FirstTrouble.{open-first, close-first, open-not-wide, close-value}
-pub use Rattle.relay.proofs.Theorems.{relay-first}
+use Rattle.link1.proofs.Calls.{Judges, judged, Opens, opened, Closes, closed, Relays, relayed, Steps, stepped, Sends, sent, Searches, searched, Climbs, climbed, Names, named, Spells, spelled, Numbers, numbered-as}
 
--- `ofTable r` is: number 0 with place 0 and bit 0; a number of 1 to 7, 9 or 10 with a place of 0, 1 or 2, of 9 also 3 or 4, and bit 0; or a number of 12 to 15
--- with place 1 or 2 and a bit of 7 to 49. `Refuses r`: the number is not 0
+-- ---- 'each public call checks its own input': what it asks of its caller is nothing to show
 
--- ---- calls that answer a refusal
+pub of-asks : (κs : Lfts 0) (a : _) → of.Asked κs a
+of-asks κs a = tt
 
-pub verdict-refuses : (κs : Lfts 1) (a : _) (e : _) (r : Refusal) → verdict.Post κs a r e → ofTable r ≡ true
+pub at-asks : (κs : Lfts 0) (a : _) → at.Asked κs a
+at-asks κs a = tt
+
+pub inside-asks : (κs : Lfts 0) (a : _) → inside.Asked κs a
+inside-asks κs a = tt
+
+pub verdict-asks : (κs : Lfts 1) (a : _) → verdict.Asked κs a
+verdict-asks κs a = tt
+
+pub fresh-asks : (κs : Lfts 0) (a : _) → fresh.Asked κs a
+fresh-asks κs a = tt
+
+pub step-asks : (κs : Lfts 0) (a : _) → step.Asked κs a
+step-asks κs a = tt
+
+pub send-asks : (κs : Lfts 2) (a : _) → send.Asked κs a
+send-asks κs a = tt
+
+pub fresh-octets-asks : (κs : Lfts 0) (a : _) → fresh-octets.Asked κs a
+fresh-octets-asks κs a = tt
+
+pub step-octet-asks : (κs : Lfts 0) (a : _) → step-octet.Asked κs a
+step-octet-asks κs a = tt
+
+pub search-asks : (κs : Lfts 1) (a : _) → search-call.Asked κs a
+search-asks κs a = tt
+
+pub found-refusal-asks : (κs : Lfts 0) (a : _) → found-refusal.Asked κs a
+found-refusal-asks κs a = tt
+
+pub label-asks : (κs : Lfts 0) (a : _) → label.Asked κs a
+label-asks κs a = tt
+
+pub kind-named-asks : (κs : Lfts 0) (a : _) → kind-named.Asked κs a
+kind-named-asks κs a = tt
+
+pub named-refusal-asks : (κs : Lfts 0) (a : _) → named-refusal.Asked κs a
+named-refusal-asks κs a = tt
+
+pub kind-of-asks : (κs : Lfts 0) (a : _) → kind-of.Asked κs a
+kind-of-asks κs a = tt
+
+pub track-text-asks : (κs : Lfts 1) (a : _) → track-text.Asked κs a
+track-text-asks κs a = tt
+
+pub track-number-asks : (κs : Lfts 1) (a : _) → track-number.Asked κs a
+track-number-asks κs a = tt
+
+pub tracked-refusal-asks : (κs : Lfts 0) (a : _) → tracked-refusal.Asked κs a
+tracked-refusal-asks κs a = tt
+
+pub open-asks : (κs : Lfts 1) (a : _) → open-call.Asked κs a
+open-asks κs a = tt
+
+pub opened-refusal-asks : (κs : Lfts 0) (a : _) → opened-refusal.Asked κs a
+opened-refusal-asks κs a = tt
+
+pub close-asks : (κs : Lfts 1) (a : _) → close.Asked κs a
+close-asks κs a = tt
+
+pub altitude-asks : (κs : Lfts 0) (a : _) → altitude.Asked κs a
+altitude-asks κs a = tt
+
+pub height-refusal-asks : (κs : Lfts 0) (a : _) → height-refusal.Asked κs a
+height-refusal-asks κs a = tt
+
+pub relay-asks : (κs : Lfts 4) (a : _) → relay.Asked κs a
+relay-asks κs a = tt
+
+-- ---- calls that answer a refusal: it is of the table; a buffer that was lent is on a refusal as it was
+
+pub verdict-refuses : {image : List ℕ} {r : Refusal} → Judges image r → ofTable r ≡ true
 unfolding verdictOf
-verdict-refuses κs a e r p = ap ofTable p ∙ first-of-table (imageChecks (now (a .0))) refl tt
+verdict-refuses {image} j = ap ofTable (judged j) ∙ first-of-table (imageChecks image) refl tt
 
--- and write a lent buffer, which on a refusal is as it was
-pub send-refuses : (κs : Lfts 2) (a : _) (e : _) (r : Refusal) → send.Post κs a r e
-    → (ofTable r ≡ true) × (Refuses r → now (e .1 .1 .0) ≡ now (a .1 .1 .0))
+pub send-refuses : {image : List ℕ} {previous : ℕ} {buffer after : List ℕ} {r : Refusal} → Sends image previous buffer r after
+    → (ofTable r ≡ true) × (Refuses r → after ≡ buffer)
 unfolding sendRefusal sendLevels
-send-refuses κs a e r p = buffer-left (sendChecks (now (a .0)) (a .1 .0) (now (a .1 .1 .0))) refl tt (levelsAfter (a .1 .0) (imageBits (now (a .0)))) _ (p .0) (p .1)
+send-refuses {image} {previous} {buffer} s =
+    buffer-left (sendChecks image previous buffer) refl tt (levelsAfter previous (imageBits image)) buffer (sent s .0) (sent s .1)
 
-pub close-refuses : (κs : Lfts 1) (a : _) (e : _) (r : Refusal) → close.Post κs a r e
-    → (ofTable r ≡ true) × (Refuses r → now (e .1 .1 .0) ≡ now (a .1 .1 .0))
+pub close-refuses : {first second : Message} {buffer after : List ℕ} {r : Refusal} → Closes first second buffer r after
+    → (ofTable r ≡ true) × (Refuses r → after ≡ buffer)
 unfolding closeRefusal closeImage
-close-refuses κs a e r p =
-    buffer-left (closeChecks (a .0) (a .1 .0) (now (a .1 .1 .0))) refl (close-bits (a .0) (a .1 .0) (now (a .1 .1 .0)))
-    (imageOf (messageWord (a .0)) (messageWord (a .1 .0))) _ (p .0) (p .1)
+close-refuses {first} {second} {buffer} c =
+    buffer-left (closeChecks first second buffer) refl (close-bits first second buffer) (imageOf (messageWord first) (messageWord second)) buffer (closed c .0) (closed c .1)
 
-pub relay-refuses : (κs : Lfts 4) (a : _) (e : _) (r : Refusal) → relay.Post κs a r e
-    → (ofTable r ≡ true) × (Refuses r → now (e .1 .1 .1 .0) ≡ now (a .1 .1 .1 .0))
+pub relay-refuses : {image : List ℕ} {xs ys : List ℤ} {buffer after : List ℕ} {r : Refusal} → Relays image xs ys buffer r after
+    → (ofTable r ≡ true) × (Refuses r → after ≡ buffer)
 unfolding relayRefusal relayImage
-relay-refuses κs a e r p =
-    let image = now (a .0) in
-    let xs = now (a .1 .0) in
-    let ys = now (a .1 .1 .0) in
-    let buffer = now (a .1 .1 .1 .0) in
-    buffer-left (relayChecks image xs ys buffer) refl (relay-bits image xs ys buffer) (imageShifted (firstMessage image) (secondMessage image) xs ys) buffer (p .0) (p .1)
+relay-refuses {image} {xs} {ys} {buffer} r =
+    buffer-left (relayChecks image xs ys buffer) refl (relay-bits image xs ys buffer) (imageShifted (firstMessage image) (secondMessage image) xs ys) buffer (relayed r .0) (relayed r .1)
 
-pub track-text-refuses : (κs : Lfts 1) (a : _) (e : _) (r : Refusal) → track-text.Post κs a r e
-    → (ofTable r ≡ true) × (Refuses r → now (e .1 .0) ≡ now (a .1 .0))
+pub track-text-refuses : {number : ℕ} {buffer after : List ℕ} {r : Refusal} → Spells number buffer r after
+    → (ofTable r ≡ true) × (Refuses r → after ≡ buffer)
 unfolding texts.textRefusal texts.textAfter
-track-text-refuses κs a e r p = buffer-left (texts.textChecks (a .0) (now (a .1 .0))) refl tt (texts.textOf (a .0)) _ (p .0) (p .1)
+track-text-refuses {number} {buffer} s = buffer-left (texts.textChecks number buffer) refl tt (texts.textOf number) buffer (spelled s .0) (spelled s .1)
 
--- ---- calls that answer a value or a refusal: the refusal of the answer is one of the table, and the case `Refused` is never a success.
--- The value is then zero by its definition: `positionFound`, `numberIn`, `altitudeIn`
+-- ---- calls that answer a value or a refusal: the refusal of the answer is of the table, and the case `Refused` is never a success
 
-pub open-refuses : (κs : Lfts 1) (a : _) (e : _) (r : Opened) → open-call.Post κs a r e
-    → (ofTable (opening.refusalOf r) ≡ true) × ((x : Refusal) → r ≡ O.Refused x → Refuses x)
+pub open-refuses : {image : List ℕ} {r : Opened} → Opens image r → (ofTable (opening.refusalOf r) ≡ true) × ((x : Refusal) → r ≡ O.Refused x → Refuses x)
 unfolding opening.openOf opening.openRefusal
-open-refuses κs a e r p = refusal-told (opening.openChecks (now (a .0))) refl (open-bits (now (a .0))) O.Refused opening.refusalOf
-    (O.Pair (opening.wordMessage (opening.firstWord (now (a .0)))) (opening.wordMessage (opening.secondWord (now (a .0))))) (λ x. refl) refl (λ x z. zero-one (cc)) p
+open-refuses {image} o = refusal-told (opening.openChecks image) refl (open-bits image) O.Refused opening.refusalOf
+    (O.Pair (opening.wordMessage (opening.firstWord image)) (opening.wordMessage (opening.secondWord image))) (λ x. refl) refl (λ x z. zero-one (cc)) (opened o)
 
-pub kind-named-refuses : (κs : Lfts 0) (a : _) (e : _) (r : Named) → kind-named.Post κs a r e
-    → (ofTable (labels.refusalOf r) ≡ true) × ((x : Refusal) → r ≡ N.Refused x → Refuses x)
+pub kind-named-refuses : {label : ℕ} {r : Named} → Names label r → (ofTable (labels.refusalOf r) ≡ true) × ((x : Refusal) → r ≡ N.Refused x → Refuses x)
 unfolding labels.namedOf labels.nameRefusal
-kind-named-refuses κs a e r p =
-    refusal-told (labels.nameChecks (a .0)) refl tt N.Refused labels.refusalOf (N.Kind (labels.kindNamed (labels.kindFrom allKinds (a .0)))) (λ x. refl) refl (λ x z. zero-one (cc)) p
+kind-named-refuses {label} n =
+    refusal-told (labels.nameChecks label) refl tt N.Refused labels.refusalOf (N.Kind (labels.kindNamed (labels.kindFrom allKinds label))) (λ x. refl) refl (λ x z. zero-one (cc)) (named n)
 
-pub search-refuses : (κs : Lfts 1) (a : _) (e : _) (r : Found) → search-call.Post κs a r e
-    → (ofTable (searching.refusalOf r) ≡ true) × ((x : Refusal) → r ≡ F.Refused x → Refuses x)
+pub search-refuses : {capture : List ℕ} {start : ℕ} {r : Found} → Searches capture start r → (ofTable (searching.refusalOf r) ≡ true) × ((x : Refusal) → r ≡ F.Refused x → Refuses x)
 unfolding searching.searchOf searching.searchRefusal
-search-refuses κs a e r p =
-    refusal-told (searching.searchChecks (now (a .0)) (a .1 .0)) refl tt F.Refused searching.refusalOf (F.At (searching.leastFrom (now (a .0)) (a .1 .0))) (λ x. refl) refl (λ x z. zero-one (cc)) p
+search-refuses {capture} {start} f =
+    refusal-told (searching.searchChecks capture start) refl tt F.Refused searching.refusalOf (F.At (searching.leastFrom capture start)) (λ x. refl) refl (λ x z. zero-one (cc)) (searched f)
 
-pub track-number-refuses : (κs : Lfts 1) (a : _) (e : _) (r : Tracked) → track-number.Post κs a r e
-    → (ofTable (texts.refusalOf r) ≡ true) × ((x : Refusal) → r ≡ T.Refused x → Refuses x)
+pub track-number-refuses : {text : List ℕ} {r : Tracked} → Numbers text r → (ofTable (texts.refusalOf r) ≡ true) × ((x : Refusal) → r ≡ T.Refused x → Refuses x)
 unfolding texts.trackedOf texts.trackRefusal
-track-number-refuses κs a e r p = refusal-told (texts.trackChecks (now (a .0))) refl tt T.Refused texts.refusalOf (T.Number (texts.textNumber (now (a .0)))) (λ x. refl) refl (λ x z. zero-one (cc)) p
+track-number-refuses {text} t = refusal-told (texts.trackChecks text) refl tt T.Refused texts.refusalOf (T.Number (texts.textNumber text)) (λ x. refl) refl (λ x z. zero-one (cc)) (numbered-as t)
 
-pub altitude-refuses : (κs : Lfts 0) (a : _) (e : _) (r : Height) → altitude.Post κs a r e
-    → (ofTable (heights.refusalOf r) ≡ true) × ((x : Refusal) → r ≡ H.Refused x → Refuses x)
+pub altitude-refuses : {feet : ℤ} {r : Height} → Climbs feet r → (ofTable (heights.refusalOf r) ≡ true) × ((x : Refusal) → r ≡ H.Refused x → Refuses x)
 unfolding heights.heightOf heights.heightRefusal
-altitude-refuses κs a e r p = refusal-told (heights.heightChecks (a .0 .0)) refl tt H.Refused heights.refusalOf (H.At (record { 0 = heights.altitudeOf (a .0 .0) })) (λ x. refl) refl (λ x z. zero-one (cc)) p
+altitude-refuses {feet} h = refusal-told (heights.heightChecks feet) refl tt H.Refused heights.refusalOf (H.At (record { 0 = heights.altitudeOf feet })) (λ x. refl) refl (λ x z. zero-one (cc)) (climbed h)
 
 -- the value of a refusal is zero
 pub no-position : (x : Refusal) → searching.positionFound (F.Refused x) ≡ 0
@@ -133,17 +206,16 @@ no-number x = refl
 pub no-altitude : (x : Refusal) → heights.altitudeIn (H.Refused x) ≡ 0
 no-altitude x = refl
 
--- ---- a call that hands back state in either case
+-- ---- a call that hands back state in either case: a level that is refused leaves the receiver as it was, with no frame and sixteen zero octets
 
--- a level that is refused leaves the receiver as it was, with no frame and sixteen zero octets
-pub step-refuses : (κs : Lfts 0) (a : _) (e : _) (r : Heard) → step.Post κs a r e
-    → (ofTable (r .refusal) ≡ true) × (Refuses (r .refusal) → (r .receiver ≡ a .0) × (r .frame ≡ false) × (r .image ≡ noImage))
-step-refuses κs a e r p = go (refused (a .1 .0)) p
+pub step-refuses : {s : Receiver} {level : ℕ} {h : Heard} → Steps s level h
+    → (ofTable (h .refusal) ≡ true) × (Refuses (h .refusal) → (h .receiver ≡ s) × (h .frame ≡ false) × (h .image ≡ noImage))
+step-refuses {s} {level} {h} p = go (refused level) (stepped p)
   where
-    go : (t : Bool) → r ≡ pick t (refusedBy (a .0)) (answerOf (accepted (a .0) (a .1 .0)))
-        → (ofTable (r .refusal) ≡ true) × (Refuses (r .refusal) → (r .receiver ≡ a .0) × (r .frame ≡ false) × (r .image ≡ noImage))
+    go : (t : Bool) → h ≡ pick t (refusedBy s) (answerOf (accepted s level))
+        → (ofTable (h .refusal) ≡ true) × (Refuses (h .refusal) → (h .receiver ≡ s) × (h .frame ≡ false) × (h .image ≡ noImage))
     go true q = (
       ap (λ (h : Heard). ofTable (h .refusal)) q,
-      λ h. (ap (λ (h : Heard). h .receiver) q, ap (λ (h : Heard). h .frame) q, ap (λ (h : Heard). h .image) q),
+      λ r. (ap (λ (h : Heard). h .receiver) q, ap (λ (h : Heard). h .frame) q, ap (λ (h : Heard). h .image) q),
     )
-    go false q = (ap (λ (h : Heard). ofTable (h .refusal)) q, λ h. absurd (h (ap (λ (h : Heard). h .refusal .number) q)))
+    go false q = (ap (λ (h : Heard). ofTable (h .refusal)) q, λ r. absurd (r (ap (λ (h : Heard). h .refusal .number) q)))

@@ -2,6 +2,7 @@ pub mod Demand1
 pub mod Demand2
 pub mod Demand3
 pub mod Calls
+pub mod Orders
 pub mod Asking
 pub mod Examples
 pub mod Facts

@@ -4,10 +4,11 @@ use mathlib.Core.Path.{_≡_, refl, sym, ap, subst, _∙_}
 use mathlib.Core.List.{List, [], _∷_}
 use mathlib.Core.Logic.{_⊎_, inl, inr, ⊎-elim}
 use Prim.Native.Nat.{ℕ, _+_, _^_, _<_}
+use lib.Dec.{lit≤}
 use Rattle.bits.specs.Octets.{bitAt}
 use Rattle.bits.specs.Begins.{IsFirst}
 use Rattle.bits.specs.declared.Cause.{Cause}
-use Rattle.bits.specs.declared.Cause.the-variants.{Unused, TooWide}
+use Rattle.bits.specs.declared.Cause.the-variants.{Pattern, Spare, Unused, TooWide}
 use Rattle.bits.specs.declared.Trouble.{Trouble}
 use Rattle.bits.specs.declared.Trouble.the-variants.{Nothing, Wrong}
 use Rattle.refusal.specs.Refusals.{insideAt}
@@ -23,7 +24,7 @@ use Rattle.pair.specs.declared.Opened.the-variants.{Pair, Refused}
 use Rattle.bits.proofs.NumberLaws.{num-lt}
 use Rattle.bits.proofs.OctetLaws.{bit-lt}
 use Rattle.bits.proofs.TroubleLaws.{begins-narrow, misfits-value}
-use Rattle.refusal.proofs.CheckLaws.{InMessage, AllInMessage, Told, first-told, answer-tells}
+use Rattle.refusal.proofs.CheckLaws.{InMessage, AllInMessage, Numbered, AllNumbered, Told, first-told, answer-tells}
 use Rattle.message.proofs.FirstTrouble.{BeginsAt, content-first, content-bit, MisfitsAt, message-first, message-bit}
 
 -- of two messages, whose troubles begin as P and as Q say, the first that has one is told, and its first trouble
@@ -42,6 +43,20 @@ two-told P Q t u f g place c b =
 abbrev pub BeginsInside : ℕ → Cause → ℕ → Type 0
 BeginsInside word = BeginsAt (wordKind word) word
 
+-- what comes out of a word fits, so none is too wide
+narrow : (word b : ℕ) → BeginsInside word TooWide b → ⊥
+narrow word = begins-narrow 6 (layoutOf (wordKind word)) word
+
+word-number : (word : ℕ) → Numbered 12 14 (wordTrouble word)
+word-number word = go (wordTrouble word) (content-first (wordKind word) word)
+  where
+    go : (t : Trouble) → IsFirst (BeginsInside word) t → Numbered 12 14 t
+    go Nothing f = tt
+    go (Wrong Pattern b) f = (lit≤ tt, lit≤ tt)
+    go (Wrong Spare b) f = (lit≤ tt, lit≤ tt)
+    go (Wrong Unused b) f = (lit≤ tt, lit≤ tt)
+    go (Wrong TooWide b) f = absurd (narrow word b (f .0))
+
 module _ (image : List ℕ) where
   -- a word of an image has no more than its 49 bits
   word-short : (k : ℕ) → wordOf (bitAt image) k < 2 ^ 49
@@ -53,6 +68,10 @@ module _ (image : List ℕ) where
   pub open-bits : AllInMessage (openChecks image)
   open-bits = (word-bit 1, (word-bit 2, tt))
 
+  -- opening tells 12, 13 or 14
+  pub open-numbers : AllNumbered 12 14 (openChecks image)
+  open-numbers = (word-number (firstWord image), (word-number (secondWord image), tt))
+
   pub open-first : (place : ℕ) (c : Cause) (b : ℕ) → openOf image ≡ Refused (insideAt place c b)
       → FirstOfTwo (BeginsInside (firstWord image)) (BeginsInside (secondWord image)) place (Wrong c b)
   unfolding openOf openRefusal
@@ -63,15 +82,25 @@ module _ (image : List ℕ) where
       two-told (BeginsInside v) (BeginsInside w) (wordTrouble v) (wordTrouble w) (content-first (wordKind v) v) (content-first (wordKind w) w) place c b
       (first-told (openChecks image) refl place c b (sym tells ∙ ap refusalOf e) .1 .1 .1 .1 .1 .1 .1)
 
-  -- opening tells 12, 13 or 14
   pub open-not-wide : (place b : ℕ) → openOf image ≡ Refused (insideAt place TooWide b) → ⊥
   open-not-wide place b e =
-      ⊎-elim (λ p. narrow (firstWord image) (p .1 .0)) (λ p. narrow (secondWord image) (p .2 .0)) (open-first place TooWide b e)
-    where
-      narrow : (word : ℕ) → BeginsInside word TooWide b → ⊥
-      narrow word = begins-narrow 6 (layoutOf (wordKind word)) word b
+      ⊎-elim (λ p. narrow (firstWord image) b (p .1 .0)) (λ p. narrow (secondWord image) b (p .2 .0)) (open-first place TooWide b e)
 
 -- ---- closing
+
+-- a message holds no pattern and no spare bits
+value : (m : Message) (c : Cause) (b : ℕ) → MisfitsAt m c b → (c ≡ Unused) ⊎ (c ≡ TooWide)
+value m = misfits-value 6 (layoutOf (kindOf m)) (partsOf m)
+
+message-number : (m : Message) → Numbered 14 15 (messageTrouble m)
+message-number m = go (messageTrouble m) (message-first m)
+  where
+    by : (c : Cause) (b : ℕ) → (c ≡ Unused) ⊎ (c ≡ TooWide) → Numbered 14 15 (Wrong c b)
+    by c b = ⊎-elim (λ e. subst (λ (x : Cause). Numbered 14 15 (Wrong x b)) (sym e) (lit≤ tt, lit≤ tt)) (λ e. subst (λ (x : Cause). Numbered 14 15 (Wrong x b)) (sym e) (lit≤ tt, lit≤ tt))
+
+    go : (t : Trouble) → IsFirst (MisfitsAt m) t → Numbered 14 15 t
+    go Nothing f = tt
+    go (Wrong c b) f = by c b (value m c b (f .0))
 
 module _ (first second : Message) (buffer : List ℕ) where
   pub close-bits : AllInMessage (closeChecks first second buffer)
@@ -86,7 +115,7 @@ module _ (first second : Message) (buffer : List ℕ) where
 
   -- closing tells 14 or 15
   pub close-value : (place : ℕ) (c : Cause) (b : ℕ) → closeRefusal first second buffer ≡ insideAt place c b → (c ≡ Unused) ⊎ (c ≡ TooWide)
-  close-value place c b e = ⊎-elim (λ p. value first (p .1 .0)) (λ p. value second (p .2 .0)) (close-first place c b e)
-    where
-      value : (m : Message) → MisfitsAt m c b → (c ≡ Unused) ⊎ (c ≡ TooWide)
-      value m = misfits-value 6 (layoutOf (kindOf m)) (partsOf m) c b
+  close-value place c b e = ⊎-elim (λ p. value first c b (p .1 .0)) (λ p. value second c b (p .2 .0)) (close-first place c b e)
+
+  pub close-numbers : AllNumbered 14 15 (closeChecks first second buffer)
+  close-numbers = (message-number first, (message-number second, tt))

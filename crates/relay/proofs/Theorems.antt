@@ -25,11 +25,11 @@ use Rattle.shift.specs.Shift.{shiftedBy}
 use Rattle.shift.specs.declared.Position.{Position}
 use Rattle.relay.specs.Relay.{firstMessage, secondMessage, pairChecks, relayChecks, relayRefusal, relayImage, imageShifted}
 use Rattle.bits.proofs.TestLaws.{both-true}
-use Rattle.refusal.proofs.CheckLaws.{Passed, AllInMessage, success-passed, passed-success, first-told}
+use Rattle.refusal.proofs.CheckLaws.{Passed, AllInMessage, AllNumbered, success-passed, passed-success, first-told}
 use Rattle.units.proofs.Order.{alike}
 use Rattle.units.proofs.Undo.{offset-back, too-far-back}
 use Rattle.pair.proofs.Demand2.{opened-closes, closed-opens}
-use Rattle.pair.proofs.FirstTrouble.{open-bits}
+use Rattle.pair.proofs.FirstTrouble.{open-bits, open-numbers}
 use Rattle.shift.proofs.Theorems.{Nearby, shifted-nearby, shifted-empty, empty-lands, TakesBack, axes-back, both-back, back-lands, lands-near}
 use Rattle.relay.proofs.RelayLaws.{open-refused, opened-legal, messages, refusal-opened, image-opened, shifted-closes}
 
@@ -101,6 +101,9 @@ module _ (image : List ℕ) (xs ys : List ℤ) (buffer : List ℕ) where
 
   pub relay-bits : AllInMessage (relayChecks image xs ys buffer)
   relay-bits = open-bits image
+
+  pub relay-numbers : AllNumbered 12 14 (relayChecks image xs ys buffer)
+  relay-numbers = open-numbers image
 
   pub relay-first : (place : ℕ) (c : Cause) (b : ℕ) → relayRefusal image xs ys buffer ≡ insideAt place c b → openOf image ≡ Refused (insideAt place c b)
   relay-first place c b e = go (openOf image) refl
