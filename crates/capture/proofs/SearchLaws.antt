@@ -2,6 +2,7 @@
 use mathlib.Core.Path.{_≡_, refl, sym, ap, subst, _∙_}
 use mathlib.Core.Bool.{Bool, true, false}
 use mathlib.Core.List.{List, [], _∷_}
+use mathlib.Core.Logic.{_↔_}
 use Prim.Native.Nat.{ℕ, zero, suc, _+_, _-_, _*_, _≤_, _<_}
 use native.Mathlib.Omega.{arith}
 use borrow.Author.Tests.{le-leb, lt-leb, leb-true, eqb-true}
@@ -11,7 +12,8 @@ use Rattle.bits.specs.Tests.{pick}
 use Rattle.refusal.specs.Refusals.{success, badLength, outOfRange, noFrame, numbered}
 use Rattle.refusal.specs.Checks.{check, firstRefusal, answered}
 use Rattle.refusal.specs.declared.Refusal.{Refusal}
-use Rattle.capture.specs.Search.{goodAt, NoneIn, Least, NoneFrom, firstGood, leastFrom, searchChecks, searchRefusal, searchOf}
+use Rattle.capture.specs.Search.{goodAt, NoneIn, Least, NoneFrom, firstGood, leastFrom, searchChecks, searchRefusal, searchOf, refusalOf}
+use Rattle.capture.specs.declared.Found.{Found}
 use Rattle.capture.specs.declared.Found.the-variants.{At, Refused}
 use Rattle.bits.proofs.TestLaws.{by-lt, clash, zero-one}
 use Rattle.refusal.proofs.CheckLaws.{success-passed, answer-refused}
@@ -128,3 +130,67 @@ module _ (capture : List ℕ) where
         go : (g : Bool) → goodAt capture (leastFrom capture start) ≡ g → NoneFrom capture start
         go true q = let found : searchOf capture start ≡ At (leastFrom capture start) = rw (le-leb _ _ short, le-leb _ _ inside, q) in zero-one (cc)
         go false q = none-found (rw (le-leb _ _ short, le-leb _ _ inside, q))
+
+    -- ---- each answer, exactly
+
+    told : {r : Refusal} → searchRefusal capture start ≡ r → (r .number ≡ success → ⊥) → searchOf capture start ≡ Refused r
+    told e wrong = sym (refused refl wrong e)
+
+    too-long-told : 65536 < length capture → searchOf capture start ≡ Refused (numbered badLength)
+    too-long-told h = told (too-long h) (λ z. omega arith)
+
+    past-end-told : length capture ≤ 65536 → 8 * length capture < start → searchOf capture start ≡ Refused (numbered outOfRange)
+    past-end-told short h = told (past-end short h) (λ z. omega arith)
+
+    none-told : length capture ≤ 65536 → start ≤ 8 * length capture → NoneFrom capture start → searchOf capture start ≡ Refused (numbered noFrame)
+    none-told short inside none = told (none-there short inside none) (λ z. omega arith)
+
+    one-number : {a b : ℕ} → searchOf capture start ≡ Refused (numbered a) → searchOf capture start ≡ Refused (numbered b) → a ≡ b
+    one-number e f = ap (λ (x : Found). refusalOf x .number) (sym e ∙ f)
+
+    -- by the length and the start
+    module _ {P : Type 0} (long : 65536 < length capture → P) (past : length capture ≤ 65536 → 8 * length capture < start → P)
+        (within : length capture ≤ 65536 → start ≤ 8 * length capture → P) where
+      by-cases : P
+      by-cases = by-lt 65536 (length capture) long (λ short. by-lt (8 * length capture) start (past short) (within short))
+
+    pub found-exactly : (p : ℕ) → (searchOf capture start ≡ At p) ↔ ((length capture ≤ 65536) × (start ≤ 8 * length capture) × Least capture start p)
+    found-exactly p = (
+      λ e.
+      by-cases
+      (λ h. let q : At p ≡ Refused (numbered badLength) = sym e ∙ too-long-told h in zero-one (cc))
+      (λ short h. let q : At p ≡ Refused (numbered outOfRange) = sym e ∙ past-end-told short h in zero-one (cc))
+      (λ short inside. (short, inside, found-least p e)),
+      λ w. sym (one-there (w .0) (w .1) p (w .2)),
+    )
+
+    pub long-exactly : (searchOf capture start ≡ Refused (numbered badLength)) ↔ (65536 < length capture)
+    long-exactly = (
+      λ e.
+      by-cases (λ h. h)
+      (λ short h. absurd (omega (arith, one-number e (past-end-told short h))))
+      (λ short inside.
+      absurd (omega (arith, one-number e (none-told short inside (none-answered short inside _ e))))),
+      too-long-told,
+    )
+
+    pub past-exactly : (searchOf capture start ≡ Refused (numbered outOfRange)) ↔ ((length capture ≤ 65536) × (8 * length capture < start))
+    past-exactly = (
+      λ e.
+      by-cases
+      (λ h. absurd (omega (arith, one-number e (too-long-told h))))
+      (λ short h. (short, h))
+      (λ short inside.
+      absurd (omega (arith, one-number e (none-told short inside (none-answered short inside _ e))))),
+      λ w. past-end-told (w .0) (w .1),
+    )
+
+    pub none-exactly : (searchOf capture start ≡ Refused (numbered noFrame)) ↔ ((length capture ≤ 65536) × (start ≤ 8 * length capture) × NoneFrom capture start)
+    none-exactly = (
+      λ e.
+      by-cases
+      (λ h. absurd (omega (arith, one-number e (too-long-told h))))
+      (λ short h. absurd (omega (arith, one-number e (past-end-told short h))))
+      (λ short inside. (short, inside, none-found e)),
+      λ w. none-told (w .0) (w .1) (w .2),
+    )

@@ -2,6 +2,7 @@
 use mathlib.Core.Path.{_≡_, refl, sym, ap, ap₂, _∙_}
 use mathlib.Core.Bool.{Bool, true, false}
 use mathlib.Core.List.{List, [], _∷_}
+use mathlib.Core.Logic.{_↔_}
 use Prim.Native.Nat.{ℕ, _+_, _-_, _*_, _/_, _%_, _≤_, _<_}
 use native.Mathlib.Nat.{zero-add}
 use native.Mathlib.Omega.{arith}
@@ -73,28 +74,35 @@ verdict-frame image v =
     sym (verdict-good (bitAt image))
     ∙ ap (λ (r : Refusal). eqb (r .number) success) (sym (verdict-image image (verdict-size image (ap (λ (r : Refusal). r .number) v))) ∙ v)
 
--- ---- frames with the same 128 bits are alike
+-- ---- frames with the same bits are alike, but for the seventh bits of the data groups, 16, 24, .. 120, which have no check bit
+
+module _ (b c : ℕ → ℕ) (same : (n : ℕ) → 1 ≤ n → n ≤ 128 → (n % 8 ≡ 0 → 16 ≤ n → n ≤ 120 → ⊥) → b n ≡ c n) where
+  start-free : startGood b ≡ startGood c
+  start-free = every-ext _ _ 8 (λ i l. ap (λ (x : ℕ). eqb x 0) (same (i + 1) (omega arith) (omega arith) (λ z k m. omega arith)))
+
+  marks-free : marksGood b ≡ marksGood c
+  marks-free =
+      ap₂ both (every-ext _ _ 15 (λ g l. ap (λ (x : ℕ). eqb x 1) (same (8 * g + 9) (omega arith) (omega arith) (λ z k m. omega arith))))
+      (ap (λ (x : ℕ). eqb x 1) (same 128 (omega arith) (omega arith) (λ z k m. omega arith)))
+
+  checks-free : checksGood b ≡ checksGood c
+  checks-free =
+      every-ext _ _ 6
+      (λ i l. ap (λ (x : ℕ). eqb (x % 2) 1) (sum-ext _ _ 15 (λ g k. same (8 * g + 9 + (i + 1)) (omega arith) (omega arith) (λ z m n. omega arith))))
+
+  pub seventh-free : goodFrame b ≡ goodFrame c
+  unfolding goodFrame
+  seventh-free = λ i. both (start-free i) (both (marks-free i) (checks-free i))
+
+  verdict-free : frameVerdict b ≡ frameVerdict c
+  verdict-free = by-tests b start-free marks-free checks-free ∙ sym (by-tests c refl refl refl)
 
 module _ (b c : ℕ → ℕ) (same : (n : ℕ) → 1 ≤ n → n ≤ 128 → b n ≡ c n) where
-  start-ext : startGood b ≡ startGood c
-  start-ext = every-ext _ _ 8 (λ i l. ap (λ (x : ℕ). eqb x 0) (same (i + 1) (omega arith) (omega arith)))
-
-  marks-ext : marksGood b ≡ marksGood c
-  marks-ext =
-      ap₂ both (every-ext _ _ 15 (λ g l. ap (λ (x : ℕ). eqb x 1) (same (8 * g + 9) (omega arith) (omega arith))))
-      (ap (λ (x : ℕ). eqb x 1) (same 128 (omega arith) (omega arith)))
-
-  checks-ext : checksGood b ≡ checksGood c
-  checks-ext =
-      every-ext _ _ 6
-      (λ i l. ap (λ (x : ℕ). eqb (x % 2) 1) (sum-ext _ _ 15 (λ g k. same (8 * g + 9 + (i + 1)) (omega arith) (omega arith))))
-
   pub good-ext : goodFrame b ≡ goodFrame c
-  unfolding goodFrame
-  good-ext = λ i. both (start-ext i) (both (marks-ext i) (checks-ext i))
+  good-ext = seventh-free b c (λ n h l _. same n h l)
 
   pub verdict-ext : frameVerdict b ≡ frameVerdict c
-  verdict-ext = by-tests b start-ext marks-ext checks-ext ∙ sym (by-tests c refl refl refl)
+  verdict-ext = verdict-free b c (λ n h l _. same n h l)
 
 -- ---- what a good frame says of single bits
 
@@ -115,18 +123,43 @@ module _ (b : ℕ → ℕ) (good : goodFrame b ≡ true) where
   pub column-odd : (i : ℕ) → i < 6 → columnOf b (i + 1) % 2 ≡ 1
   column-odd i h = eqb-true _ _ (every-at _ 6 (parts .2) i h)
 
--- ---- and what makes a frame good: the start group, the marks, the final one, and check bits worked from the data bits
+-- ---- a good frame, exactly (001, Annex A, Appendix 3, paragraphs 2 and 3)
 
+abbrev pub MeetsAll : (ℕ → ℕ) → Type 0
+MeetsAll b =
+    ((n : ℕ) → 1 ≤ n → n ≤ 8 → b n ≡ 0)
+    × ((g : ℕ) → g ≤ 14 → b (8 * g + 9) ≡ 1)
+    × (b 128 ≡ 1)
+    × ((j : ℕ) → 1 ≤ j → j ≤ 6 → columnOf b j % 2 ≡ 1)
+
+pub good-exactly : (b : ℕ → ℕ) → (goodFrame b ≡ true) ↔ MeetsAll b
+unfolding goodFrame
+good-exactly b = (to, from)
+  where
+    to : goodFrame b ≡ true → MeetsAll b
+    to good = (
+      λ n h l. let e : n - 1 + 1 ≡ n = omega arith in ap b (sym e) ∙ start-zero b good (n - 1) (omega arith),
+      λ g l. mark-one b good g (omega arith),
+      final-one b good,
+      λ j h l. let e : j - 1 + 1 ≡ j = omega arith in ap (λ (i : ℕ). columnOf b i % 2) (sym e) ∙ column-odd b good (j - 1) (omega arith),
+    )
+
+    from : MeetsAll b → goodFrame b ≡ true
+    from (start, mark, final, odd) =
+        let s : startGood b ≡ true = every-all _ 8 (λ n h. eq-eqb _ 0 (start (n + 1) (omega arith) (omega arith))) in
+        let m : marksGood b ≡ true = ap₂ both (every-all _ 15 (λ g h. eq-eqb _ 1 (mark g (omega arith)))) (eq-eqb _ 1 final) in
+        let k : checksGood b ≡ true = every-all _ 6 (λ i h. eq-eqb _ 1 (odd (i + 1) (omega arith) (omega arith))) in
+        λ i. both (s i) (both (m i) (k i))
+
+-- so with check bits worked from the data bits
 pub good-by : (b : ℕ → ℕ) → ((n : ℕ) → n < 8 → b (n + 1) ≡ 0) → ((g : ℕ) → g < 15 → b (8 * g + 9) ≡ 1) → b 128 ≡ 1
     → ((j : ℕ) → 1 ≤ j → j ≤ 6 → b (121 + j) ≡ (sumOf (λ g. b (8 * g + 9 + j)) 14 + 1) % 2) → goodFrame b ≡ true
-unfolding goodFrame
-good-by b start mark final check =
-    let s : startGood b ≡ true = every-all _ 8 (λ n h. eq-eqb _ 0 (start n h)) in
-    let m : marksGood b ≡ true = ap₂ both (every-all _ 15 (λ g h. eq-eqb _ 1 (mark g h))) (eq-eqb _ 1 final) in
-    let odd : (j : ℕ) → 1 ≤ j → j ≤ 6 → columnOf b j % 2 ≡ 1 =
-    λ j h l. omega (arith, sum-more (λ g. b (8 * g + 9 + j)) 14, check j h l) in
-    let k : checksGood b ≡ true = every-all _ 6 (λ i h. eq-eqb _ 1 (odd (i + 1) (omega arith) (omega arith))) in
-    λ i. both (s i) (both (m i) (k i))
+good-by b start mark final check = good-exactly b .1 (
+  λ n h l. let e : n - 1 + 1 ≡ n = omega arith in ap b (sym e) ∙ start (n - 1) (omega arith),
+  λ g l. mark g (omega arith),
+  final,
+  λ j h l. omega (arith, sum-more (λ g. b (8 * g + 9 + j)) 14, check j h l),
+)
 
 -- the first octet of a good image is 0
 pub start-octet : (s : List ℕ) → goodFrame (bitAt s) ≡ true → getD s 0 0 < 256 → getD s 0 0 ≡ 0

@@ -8,14 +8,14 @@ use native.Mathlib.Omega.{arith}
 use borrow.Author.Tests.{lt-ltb}
 use lib.Dec.{eqb, ltb}
 use lib.ListN.{length}
-use Rattle.bits.specs.Tests.{pick, both, every}
+use Rattle.bits.specs.Tests.{pick, both, agree, every}
 use Rattle.bits.specs.Numbers.{sumOf}
 use Rattle.bits.specs.Octets.{bitAt}
 use Rattle.refusal.specs.Refusals.{numbered, success}
 use Rattle.frame.specs.Frame.{startGood, marksGood, columnOf, checksGood, goodFrame, verdictOf}
 use Rattle.line.specs.Hearing.{lastFrame}
 use Rattle.line.specs.WrongLevel.{changedAt, onTheLine, wrongBits, twoWrongBits, turned, beside, passTogether}
-use Rattle.bits.proofs.TestLaws.{every-ext, every-at}
+use Rattle.bits.proofs.TestLaws.{agree-is, every-ext, every-at}
 use Rattle.bits.proofs.OctetLaws.{bit-lt}
 use Rattle.frame.proofs.FrameLaws.{verdict-frame, good-ext, start-zero, mark-one, final-one, column-odd}
 use Rattle.line.proofs.WindowLaws.{Bits}
@@ -82,18 +82,9 @@ beside-one i k b n small = go (beside i n) (beside k n)
 
 -- ---- which two pass, computed for every two of 129 levels
 
-abbrev same : Bool → Bool → Bool
-same true t = t
-same false t = not t
-
-same-is : (s t : Bool) → same s t ≡ true → s ≡ t
-same-is true t e = sym e
-same-is false true e = e
-same-is false false e = refl
-
 -- the rule for two levels, the first of them below the second
 abbrev rule : ℕ → ℕ → Bool
-rule i k = pick (ltb i k) (same (unnoticed (besideOne i k)) (passTogether i k)) true
+rule i k = pick (ltb i k) (agree (unnoticed (besideOne i k)) (passTogether i k)) true
 
 every-two : every (λ i. every (rule i) 129) 129 ≡ true
 unfolding every sumOf
@@ -102,7 +93,7 @@ every-two = refl
 two-seen : (i k : ℕ) → i < k → k ≤ 128 → unnoticed (besideOne i k) ≡ passTogether i k
 two-seen i k h few =
     let e : rule i k ≡ true = every-at (rule i) 129 (every-at (λ m. every (rule m) 129) 129 every-two i (omega arith)) k (omega arith) in
-    same-is _ _ (rw (lt-ltb i k h) at e)
+    agree-is _ _ (rw (lt-ltb i k h) at e)
 
 -- of the 8,256 choices of two levels 616 pass
 pub counted : sumOf (λ i. sumOf (λ k. pick (both (ltb i k) (passTogether i k)) 1 0) 129) 129 ≡ 616

@@ -32,7 +32,8 @@ use Rattle.kind.specs.declared.Labelled.the-variants.{Known}
 use Rattle.bits.proofs.TestLaws.{clash, zero-one, to-T, from-T, both-true, both-right}
 use Rattle.bits.proofs.NumberLaws.{num-ext}
 use Rattle.bits.proofs.LayoutLaws.{allows, nothing-is, allowed-none, allowed-more, fits-more, fits-anywhere, join-split, fits-split, split-join, allowed-join, first-join}
-use Rattle.kind.proofs.TableLaws.{each, label-lt, wide}
+use Rattle.kind.proofs.LabelLaws.{labelled, label-from}
+use Rattle.kind.proofs.TableLaws.{label-lt, wide}
 use Rattle.message.proofs.ZeroedLaws.{wordFrom, other-stays, zeroed-lt, zeroed-iff, label-is, iff-split, iff-trouble}
 
 -- ---- modes
@@ -103,18 +104,6 @@ kind-made S8Plus vs = refl
 kind-made S9 vs = refl
 
 -- ---- labels
-
--- no two kinds have one label
-labelled : (k : Kind) → kindFrom allKinds (labelOf k) ≡ Known k
-labelled = each (λ (k : Kind). kindFrom allKinds (labelOf k)) Known refl
-
-label-from : (ks : List Kind) (n : ℕ) (k : Kind) → kindFrom ks n ≡ Known k → n ≡ labelOf k
-label-from [] n k p = zero-one (cc)
-label-from (x ∷ ks) n k p = go (eqb n (labelOf x)) refl p (label-from ks n k)
-  where
-    go : (b : Bool) → eqb n (labelOf x) ≡ b → pick b (Known x) (kindFrom ks n) ≡ Known k → (kindFrom ks n ≡ Known k → n ≡ labelOf k) → n ≡ labelOf k
-    go true e q ih = let y : x ≡ k = cc in eqb-true n (labelOf x) e ∙ ap labelOf y
-    go false e q ih = ih q
 
 -- a word of a kind is as the whole layout has it if the label is the kind's and nothing is wrong above it
 whole : (k : Kind) (w : ℕ) → labelledOf w ≡ Known k → contentTrouble k w ≡ Nothing → T (allowed 0 (wholeOf k) w)

@@ -1,11 +1,11 @@
 -- THE RULES OF THE PAIR TABLE (01, 'Which pairs may share a frame'; S.9: 02, item 1), of what the code's table answers: said over the contract of `is_pair`. One computed
 -- test of all entries, and the rules at any two kinds. Assumes nothing.
 use mathlib.Core.Path.{_≡_, refl, ap, _∙_}
-use mathlib.Core.Bool.{Bool, true, false, not}
+use mathlib.Core.Bool.{Bool, true}
 use mathlib.Core.List.{List, [], _∷_, map}
 use lib.ListN.{length, getD}
 use contract.Lifetimes.{Lfts}
-use Rattle.bits.specs.Tests.{both}
+use Rattle.bits.specs.Tests.{both, agree, implies}
 use Rattle.bits.specs.Numbers.{sumOf}
 use Rattle.bits.specs.Layout.{bit}
 use Rattle.kind.specs.Layouts.{allKinds}
@@ -17,21 +17,13 @@ use Rattle.pair.proofs.is_pair.Reads as is-pair
 
 -- ---- each rule, of two kinds and the table's answer to them
 
-abbrev same : Bool → Bool → Bool
-same true b = b
-same false b = not b
-
-abbrev implies : Bool → Bool → Bool
-implies true b = b
-implies false b = true
-
 -- a kind of `firsts` is followed by those of `seconds` and no others
 abbrev pub followedBy : List Kind → List Kind → Kind → Kind → Bool → Bool
-followedBy firsts seconds first second answer = implies (isIn first firsts) (same answer (isIn second seconds))
+followedBy firsts seconds first second answer = implies (isIn first firsts) (agree answer (isIn second seconds))
 
 -- a kind of `seconds` follows those of `firsts` and no others
 abbrev pub follows : List Kind → List Kind → Kind → Kind → Bool → Bool
-follows seconds firsts first second answer = implies (isIn second seconds) (same answer (isIn first firsts))
+follows seconds firsts first second answer = implies (isIn second seconds) (agree answer (isIn first firsts))
 
 -- S.0 is followed by S.0 only, and follows nothing else; S.4+ and S.8+ are followed by S.3 or S.5, and are never second; S.4, S.6 and S.8 are followed by S.4, S.6, S.8 or Blank;
 -- Blank, S.3 and S.5 are never first; S.9 stands only as S.9 followed by S.9
@@ -50,18 +42,20 @@ pairRules first second answer =
 abbrev kept : List Bool
 kept = map (λ (second : Kind). true) allKinds
 
-abbrev ruled : Kind → Kind → Bool
+abbrev pub ruled : Kind → Kind → Bool
 ruled first second = pairRules first second (pairOf first second)
 
 rules-kept : map (λ (first : Kind). map (ruled first) allKinds) allKinds ≡ map (λ (first : Kind). kept) allKinds
 unfolding pairOf
 rules-kept = refl
 
--- ---- the rules at any two kinds, of what the code answers
+-- ---- the rules at any two kinds, of the definition and of what the code answers
+
+pub ruled-at : (first second : Kind) → ruled first second ≡ true
+ruled-at first second = each (ruled first) (λ second. true) (each (λ (k : Kind). map (ruled k) allKinds) (λ k. kept) rules-kept first) second
 
 pub pair-rules : (κs : Lfts 0) (first second : Kind) (answer : Bool) (e : _) → is-pair.Post κs (first, (second, tt)) answer e → pairRules first second answer ≡ true
-pair-rules κs first second answer e p =
-    ap (pairRules first second) p ∙ each (ruled first) (λ second. true) (each (λ (k : Kind). map (ruled k) allKinds) (λ k. kept) rules-kept first) second
+pair-rules κs first second answer e p = ap (pairRules first second) p ∙ ruled-at first second
 
 -- how many of its answers are yes
 pub pairs-counted : (κs : Lfts 0) (table : Kind → Kind → Bool) (e : _) → ((first second : Kind) → is-pair.Post κs (first, (second, tt)) (table first second) e)

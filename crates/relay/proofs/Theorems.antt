@@ -3,9 +3,9 @@
 use mathlib.Core.Path.{_≡_, refl, sym, ap, ap₂, subst, _∙_}
 use mathlib.Core.Bool.{Bool, true}
 use mathlib.Core.List.{List, [], _∷_, List·Permᴰ}
-use mathlib.Core.Logic.{_⊎_, ⊎-elim}
+use mathlib.Core.Logic.{_↔_, _⊎_, ⊎-elim}
 use Prim.Native.Nat.{ℕ, _≤_, _<_}
-use borrow.Author.Tests.{eq-eqb, eqb-true}
+use borrow.Author.Tests.{eq-eqb, eqb-true, le-leb, leb-true}
 use lib.Dec.{leb}
 use lib.IntN.{ℤ, natAbs, negℤ}
 use lib.ListN.{length}
@@ -30,7 +30,7 @@ use Rattle.units.proofs.Order.{alike}
 use Rattle.units.proofs.Undo.{offset-back, too-far-back}
 use Rattle.pair.proofs.Demand2.{opened-closes, closed-opens}
 use Rattle.pair.proofs.FirstTrouble.{open-bits, open-numbers}
-use Rattle.shift.proofs.Theorems.{Nearby, shifted-nearby, shifted-empty, empty-lands, TakesBack, axes-back, both-back, back-lands, lands-near}
+use Rattle.shift.proofs.Theorems.{Nearby, shifted-nearby, Lands, lands-exactly, shifted-empty, empty-lands, TakesBack, axes-back, both-back, back-lands, lands-near}
 use Rattle.relay.proofs.RelayLaws.{open-refused, opened-legal, messages, refusal-opened, image-opened, shifted-closes}
 
 -- ---- an image that opens, relayed without a refusal
@@ -54,7 +54,7 @@ module _ (first second : Message) (image : List ℕ) (opens : openOf image ≡ P
   goes-on : openOf (relayImage image xs ys buffer) ≡ Pair (shiftedBy xs ys first) (shiftedBy xs ys second)
   goes-on = ap openOf written ∙ closed-opens _ _ buffer (closes .0)
 
--- ---- what a relay that is not refused gives
+-- ---- when a relay is taken, and what it then gives
 
 -- the image opens; what is written opens; of each message the position is nearest to the exact sum in feet, and all else is as it was
 pub record Carried (image : List ℕ) (xs ys : List ℤ) (after : List ℕ) : Type 0 where
@@ -74,6 +74,41 @@ module _ (image : List ℕ) (xs ys : List ℤ) (buffer : List ℕ) where
       go : (o : Opened) → openOf image ≡ o → openOf image ≡ Pair (firstMessage image) (secondMessage image)
       go (Refused r) f = let p = open-refused image xs ys buffer r f in absurd (p .1 (ap (λ (x : Refusal). x .number) (sym (p .0) ∙ e)))
       go (Pair first second) f = as-messages image first second f
+
+  -- the image opens, the buffer has sixteen octets, the lists are short and in range, and every nearest step is one of the link
+  pub relay-exactly :
+      (relayRefusal image xs ys buffer ≡ numbered success)
+      ↔ ((openOf image ≡ Pair (firstMessage image) (secondMessage image))
+      × (length buffer ≡ 16)
+      × (length xs ≤ 8)
+      × (length ys ≤ 8)
+      × (areOffsets xs ≡ true)
+      × (areOffsets ys ≡ true)
+      × Lands (firstMessage image) xs ys
+      × Lands (secondMessage image) xs ys)
+  relay-exactly = (
+    λ e.
+    let o = came-open e in
+    let p = passed _ _ image o xs ys buffer e in
+    let r = p .1 .1 .1 .1 .1 in (
+      o,
+      sixteen _ _ image o xs ys buffer e,
+      leb-true _ _ (p .1 .0),
+      leb-true _ _ (p .1 .1 .0),
+      p .1 .1 .1 .0,
+      p .1 .1 .1 .1 .0,
+      lands-exactly (firstMessage image) xs ys .0 (r .0, r .1 .0),
+      lands-exactly (secondMessage image) xs ys .0 (r .1 .1 .0, r .1 .1 .1 .0),
+    ),
+    λ w.
+    let a = lands-exactly (firstMessage image) xs ys .1 (w .6) in
+    let b = lands-exactly (secondMessage image) xs ys .1 (w .7) in
+    refusal-opened _ _ image (w .0) xs ys buffer
+    ∙ passed-success (pairChecks (firstMessage image) (secondMessage image) xs ys buffer) (
+      eq-eqb _ _ (w .1),
+      (le-leb _ _ (w .2), (le-leb _ _ (w .3), (w .4, (w .5, (a .0, (a .1, (b .0, (b .1, tt)))))))),
+    ),
+  )
 
   module _ (e : relayRefusal image xs ys buffer ≡ numbered success) where
     -- the two messages afterwards

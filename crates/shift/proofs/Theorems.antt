@@ -3,11 +3,12 @@
 use mathlib.Core.Path.{_≡_, refl, sym, ap, ap₂, _∙_}
 use mathlib.Core.Bool.{true, false}
 use mathlib.Core.List.{List, [], _∷_}
+use mathlib.Core.Logic.{_↔_}
 use Prim.Native.Nat.{_≤_}
 use lib.IntN.{ℤ, pos, negℤ, natAbs, _+ℤ_, _*ℤ_}
 use Rattle.bits.specs.declared.Trouble.the-variants.{Nothing}
 use Rattle.units.specs.Offsets.{sumZ}
-use Rattle.units.specs.Steps.{nearestTo, isStep}
+use Rattle.units.specs.Steps.{near, nearestTo, isStep}
 use Rattle.units.specs.Nearest.{Nearest, OddMultiple}
 use Rattle.units.specs.declared.LinkSteps.{LinkSteps}
 use Rattle.message.specs.Codec.{messageTrouble}
@@ -18,7 +19,7 @@ use Rattle.shift.specs.Shift.{shiftedFrom, shifted, shiftedBy, xLands, y
 use Rattle.shift.specs.declared.Position.{Position}
 use Rattle.shift.specs.declared.Position.the-variants.{At, Nowhere}
 use Rattle.bits.proofs.TestLaws.{clash}
-use Rattle.units.proofs.Nearest.{near-nearest}
+use Rattle.units.proofs.Nearest.{near-nearest, nearest-is}
 use Rattle.units.proofs.Undo.{movedTo, not-moved, moved-back, never-far}
 use Rattle.shift.proofs.PlaceLaws.{placing}
 
@@ -88,6 +89,29 @@ shifted-nearby m xs ys = go (positionOf m) refl
           y = λ h. rw (p, e) (near-nearest (pos 750 *ℤ y .0 +ℤ sumZ ys));
           still = λ h. absurd (clash (ap isSomewhere e) h);
         }
+
+-- ---- when the results are in range: each nearest step is from -4096 to 4095
+
+abbrev pub Lands : Message → List ℤ → List ℤ → Type 0
+Lands m xs ys =
+    isSomewhere (positionOf m) ≡ true
+    → ((n : ℤ) → Nearest 750 (pos 750 *ℤ xOf (positionOf m) +ℤ sumZ xs) n → isStep n ≡ true)
+    × ((n : ℤ) → Nearest 750 (pos 750 *ℤ yOf (positionOf m) +ℤ sumZ ys) n → isStep n ≡ true)
+
+pub lands-exactly : (m : Message) (xs ys : List ℤ) → ((xLands (positionOf m) (sumZ xs) ≡ true) × (yLands (positionOf m) (sumZ ys) ≡ true)) ↔ Lands m xs ys
+lands-exactly m xs ys = go (positionOf m)
+  where
+    axis : (f : ℤ) → isStep (near f) ≡ true → (n : ℤ) → Nearest 750 f n → isStep n ≡ true
+    axis f e n p = ap isStep (nearest-is f n p) ∙ e
+
+    go : (p : Position) → ((xLands p (sumZ xs) ≡ true) × (yLands p (sumZ ys) ≡ true))
+        ↔ (isSomewhere p ≡ true
+        → ((n : ℤ) → Nearest 750 (pos 750 *ℤ xOf p +ℤ sumZ xs) n → isStep n ≡ true) × ((n : ℤ) → Nearest 750 (pos 750 *ℤ yOf p +ℤ sumZ ys) n → isStep n ≡ true))
+    go Nowhere = (λ _ h. absurd (clash h refl), λ _. (refl, refl))
+    go (At x y) = (
+      λ l h. (axis (pos 750 *ℤ x .0 +ℤ sumZ xs) (l .0), axis (pos 750 *ℤ y .0 +ℤ sumZ ys) (l .1)),
+      λ l. (l refl .0 _ (near-nearest (pos 750 *ℤ x .0 +ℤ sumZ xs)), l refl .1 _ (near-nearest (pos 750 *ℤ y .0 +ℤ sumZ ys))),
+    )
 
 -- ---- empty lists: a message is shifted to itself, and lands
 

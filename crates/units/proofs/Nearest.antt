@@ -1,18 +1,20 @@
 -- `near` is the nearest step, with a half away from zero, and the only such step. Assumes nothing.
 use mathlib.Core.Bool.{Bool, true, false}
-use mathlib.Core.Path.{_≡_, refl, sym, ap, subst}
+use mathlib.Core.Path.{_≡_, refl, sym, ap, subst, _∙_}
+use mathlib.Core.Logic.{_↔_}
 use Prim.Native.Nat.{ℕ, suc, _+_, _*_, min, _≤_, _<_}
 use native.Mathlib.Omega.{arith}
-use borrow.Author.Tests.{leb-true}
+use borrow.Author.Tests.{leb-true, le-leb, lt-leb}
 use lib.IntN.{ℤ, pos, negsuc, negℤ, natAbs, _-ℤ_, _*ℤ_}
 use lib.Signed.{leZ}
 use Rattle.bits.specs.Tests.{pick}
+use Rattle.refusal.specs.Refusals.{numbered, outOfRange}
 use Rattle.units.specs.Steps.{near}
 use Rattle.units.specs.Heights.{nearAlt, altitudeOf, heightChecks, heightRefusal, heightOf}
 use Rattle.units.specs.Nearest.{dist, Nearest}
 use Rattle.units.specs.declared.AltSteps.{AltSteps}
 use Rattle.units.specs.declared.Height.the-variants as H
-use Rattle.bits.proofs.TestLaws.{zero-one}
+use Rattle.bits.proofs.TestLaws.{by-lt, zero-one}
 use Rattle.refusal.proofs.CheckLaws.{success-passed, answer-is}
 use Rattle.units.proofs.Parts.{up, dn, side, abs-parts, from-parts, add-parts, neg-parts, mul-parts, le-false}
 use Rattle.units.proofs.Rounding.{near-parts}
@@ -116,3 +118,32 @@ module _ (f : ℤ) (n : AltSteps) (e : heightOf f ≡ H.At n) where
       let above : pos (natAbs f) ≡ f = from-parts (pos (natAbs f)) f (omega (arith, le-false f (pos 375) p, abs-parts f, side f)) in
       let is : nearAlt (natAbs f) ≡ n .0 = rw p at (answered-at .1) in
       rw (← is) (subst (λ (z : ℤ). Nearest 375 z (pos (nearAlt (natAbs f)))) above (alt-nearest (natAbs f)))
+
+-- ---- each answer of `altitude`, exactly
+
+module _ (f : ℤ) where
+  pub height-low : leZ f (pos 375) ≡ true → heightOf f ≡ H.At (record { 0 = 1 })
+  unfolding heightOf heightRefusal altitudeOf
+  height-low p = rw p
+
+  module _ (p : leZ f (pos 375) ≡ false) (n : ℕ) (nearest : Nearest 375 f (pos n)) where
+    near-is : altitudeOf f ≡ n
+    unfolding altitudeOf
+    near-is =
+        let above : pos (natAbs f) ≡ f = from-parts (pos (natAbs f)) f (omega (arith, le-false f (pos 375) p, abs-parts f, side f)) in
+        let mine : Nearest 375 f (pos (nearAlt (natAbs f))) = subst (λ (z : ℤ). Nearest 375 z (pos (nearAlt (natAbs f)))) above (alt-nearest (natAbs f)) in
+        rw p (ap natAbs (nearest-only 375 f (pos (nearAlt (natAbs f))) (pos n) (omega arith) mine nearest))
+
+    taken : n ≤ 511 → heightOf f ≡ H.At (record { 0 = n })
+    unfolding heightOf heightRefusal
+    taken h = rw (near-is, le-leb n 511 h)
+
+    refused : 511 < n → heightOf f ≡ H.Refused (numbered outOfRange)
+    unfolding heightOf heightRefusal
+    refused h = rw (near-is, lt-leb n 511 h)
+
+    pub height-exactly : (heightOf f ≡ H.At (record { 0 = n })) ↔ (n ≤ 511)
+    height-exactly = (λ e. height-range f (record { 0 = n }) e .1, taken)
+
+    pub too-high-exactly : (heightOf f ≡ H.Refused (numbered outOfRange)) ↔ (511 < n)
+    too-high-exactly = (λ e. by-lt 511 n (λ h. h) (λ h. let q : H.At (record { 0 = n }) ≡ H.Refused (numbered outOfRange) = sym (taken h) ∙ e in zero-one (cc)), refused)
