@@ -107,21 +107,21 @@ module _ (b c : ℕ → ℕ) (same : (n : ℕ) → 1 ≤ n → n ≤ 128 → b n
 -- ---- what a good frame says of single bits
 
 module _ (b : ℕ → ℕ) (good : goodFrame b ≡ true) where
-  parts : (startGood b ≡ true) × (marksGood b ≡ true) × (checksGood b ≡ true)
+  pub good-parts : (startGood b ≡ true) × (marksGood b ≡ true) × (checksGood b ≡ true)
   unfolding goodFrame
-  parts = let p = both-true good in let q = both-true (p .1) in (p .0, q .0, q .1)
+  good-parts = let p = both-true good in let q = both-true (p .1) in (p .0, q .0, q .1)
 
   pub start-zero : (n : ℕ) → n < 8 → b (n + 1) ≡ 0
-  start-zero n h = eqb-true _ _ (every-at _ 8 (parts .0) n h)
+  start-zero n h = eqb-true _ _ (every-at _ 8 (good-parts .0) n h)
 
   pub mark-one : (g : ℕ) → g < 15 → b (8 * g + 9) ≡ 1
-  mark-one g h = eqb-true _ _ (every-at _ 15 (both-true (parts .1) .0) g h)
+  mark-one g h = eqb-true _ _ (every-at _ 15 (both-true (good-parts .1) .0) g h)
 
   pub final-one : b 128 ≡ 1
-  final-one = eqb-true _ _ (both-true {a = every (λ g. eqb (b (8 * g + 9)) 1) 15} (parts .1) .1)
+  final-one = eqb-true _ _ (both-true {a = every (λ g. eqb (b (8 * g + 9)) 1) 15} (good-parts .1) .1)
 
   pub column-odd : (i : ℕ) → i < 6 → columnOf b (i + 1) % 2 ≡ 1
-  column-odd i h = eqb-true _ _ (every-at _ 6 (parts .2) i h)
+  column-odd i h = eqb-true _ _ (every-at _ 6 (good-parts .2) i h)
 
 -- ---- a good frame, exactly (001, Annex A, Appendix 3, paragraphs 2 and 3)
 

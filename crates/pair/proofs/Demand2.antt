@@ -2,17 +2,20 @@
 -- absent mode's code has a digit left; which images open, exactly; a pair that closes opens again unchanged; and exactly the pairs of the table with legal content close.
 -- Assumes nothing.
 use mathlib.Core.Path.{_≡_, refl, sym, ap, ap₂, _∙_}
-use mathlib.Core.Bool.{true}
-use mathlib.Core.List.{List}
+use mathlib.Core.Bool.{Bool, true, false}
+use mathlib.Core.List.{List, [], _∷_}
 use mathlib.Core.Logic.{_↔_}
 use Prim.Native.Nat.{ℕ, _≤_}
+use native.Mathlib.Omega.{arith}
 use borrow.Author.Tests.{eqb-true, eq-eqb}
 use lib.Dec.{lit≤}
 use lib.ListN.{length}
 use Rattle.bits.specs.Tests.{both}
 use Rattle.bits.specs.Octets.{AreOctets, bitAt}
-use Rattle.bits.specs.declared.Trouble.the-variants.{Nothing}
-use Rattle.refusal.specs.Refusals.{numbered, success}
+use Rattle.bits.specs.declared.Trouble.{Trouble}
+use Rattle.bits.specs.declared.Trouble.the-variants.{Nothing, Wrong}
+use Rattle.refusal.specs.Refusals.{numbered, success, badPair}
+use Rattle.refusal.specs.Checks.{check, inside, firstRefusal}
 use Rattle.refusal.specs.declared.Refusal.{Refusal}
 use Rattle.frame.specs.Frame.{goodFrame, verdictOf}
 use Rattle.frame.specs.Words.{placeOf, wordOf, imageOf}
@@ -27,10 +30,10 @@ use Rattle.pair.specs.Opening.{isLabelled, wordKind, wordTrouble, wordMe
 use Rattle.pair.specs.Closing.{closeChecks, closeRefusal, closeImage}
 use Rattle.pair.specs.Zeroed.{messageOf, zeroedFrame, zeroedImage, Clear}
 use Rattle.pair.specs.declared.Opened.the-variants.{Pair, Refused}
-use Rattle.bits.proofs.TestLaws.{clash, zero-one, both-true}
+use Rattle.bits.proofs.TestLaws.{clash, zero-one}
 use Rattle.bits.proofs.OctetLaws.{bit-lt}
-use Rattle.refusal.proofs.CheckLaws.{Passed, success-passed, passed-success, given, answer-is}
-use Rattle.frame.proofs.FrameLaws.{verdict-good, verdict-image}
+use Rattle.refusal.proofs.CheckLaws.{Passed, success-passed, passed-success, given, answer-is, answer-not, answer-refused, cause-number}
+use Rattle.frame.proofs.FrameLaws.{good-parts, verdict-good, verdict-image}
 use Rattle.frame.proofs.WordLaws.{image-good, length-image, image-first, image-second}
 use Rattle.message.proofs.RoundTrip.{Writes, read-written, kind-read, written-read}
 use Rattle.pair.proofs.ZeroedLaws.{zeroed-word, zeroed-frame, zeroed-once, clear-own}
@@ -153,7 +156,7 @@ pub record Opening (image : List ℕ) : Type 0 where
   pub fine-2 : wordTrouble (secondWord image) ≡ Nothing
 
 pub opens-exactly : (image : List ℕ) → (openOf image ≡ Pair (wordMessage (firstWord image)) (wordMessage (secondWord image))) ↔ Opening image
-unfolding openOf openRefusal goodFrame
+unfolding openOf openRefusal
 opens-exactly image = (to, from)
   where
     to : openOf image ≡ Pair (wordMessage (firstWord image)) (wordMessage (secondWord image)) → Opening image
@@ -172,12 +175,54 @@ opens-exactly image = (to, from)
 
     from : Opening image → openOf image ≡ Pair (wordMessage (firstWord image)) (wordMessage (secondWord image))
     from o =
-        let f = both-true (o .good) in
-        let g = both-true (f .1) in
+        let p = good-parts (bitAt image) (o .good) in
         given (openRefusal image) _ _
         (ap (λ (r : Refusal). r .number)
         (passed-success (openChecks image)
-        (eq-eqb _ _ (o .size), (f .0, (g .0, (g .1, (o .known-1, (o .known-2, (o .paired, (o .fine-1, (o .fine-2, tt)))))))))))
+        (eq-eqb _ _ (o .size), (p .0, (p .1, (p .2, (o .known-1, (o .known-2, (o .paired, (o .fine-1, (o .fine-2, tt)))))))))))
+
+-- an image that opens does so as its two messages
+pub opened-as : (first second : Message) (image : List ℕ) → openOf image ≡ Pair first second → openOf image ≡ Pair (wordMessage (firstWord image)) (wordMessage (secondWord image))
+opened-as first second image e = e ∙ sym (answer first second image e .1)
+
+-- ---- 7, exactly: the pair is not in the table, where the checks before it are passed
+
+module _ (t : Bool) (u v : Trouble) where
+  -- what is wrong inside a message has another number
+  not-seven : (u v : Trouble) → firstRefusal (inside 1 u ∷ inside 2 v ∷ []) .number ≡ badPair → ⊥
+  not-seven (Wrong c b) v e = omega (arith, cause-number c)
+  not-seven Nothing (Wrong c b) e = omega (arith, cause-number c)
+  not-seven Nothing Nothing e = omega arith
+
+  seven : (firstRefusal (check t badPair ∷ inside 1 u ∷ inside 2 v ∷ []) ≡ numbered badPair) ↔ (t ≡ false)
+  seven = go t
+    where
+      go : (t : Bool) → (firstRefusal (check t badPair ∷ inside 1 u ∷ inside 2 v ∷ []) ≡ numbered badPair) ↔ (t ≡ false)
+      go true = (λ e. absurd (not-seven u v (ap (λ (r : Refusal). r .number) e)), λ e. absurd (clash refl e))
+      go false = (λ e. refl, λ e. refl)
+
+pub seven-closed : (first second : Message) (buffer : List ℕ) → length buffer ≡ 16 → (closeRefusal first second buffer ≡ numbered badPair) ↔ (pairOf (kindOf first) (kindOf second) ≡ false)
+unfolding closeRefusal
+seven-closed first second buffer sixteen =
+    let q = seven (pairOf (kindOf first) (kindOf second)) (messageTrouble first) (messageTrouble second) in
+    let here : closeRefusal first second buffer ≡ firstRefusal (check (pairOf (kindOf first) (kindOf second)) badPair ∷ inside 1 (messageTrouble first) ∷ inside 2 (messageTrouble second) ∷ [])
+    = rw (eq-eqb _ _ sixteen) in
+    (λ e. q .0 (sym here ∙ e), λ e. here ∙ q .1 e)
+
+module _ (image : List ℕ) (long : length image ≡ 16) (frame : goodFrame (bitAt image) ≡ true) (one : isLabelled (firstWord image) ≡ true) (two : isLabelled (secondWord image) ≡ true) where
+  here : openRefusal image
+      ≡ firstRefusal (check (pairOf (wordKind (firstWord image)) (wordKind (secondWord image))) badPair ∷ inside 1 (wordTrouble (firstWord image)) ∷ inside 2 (wordTrouble (secondWord image)) ∷ [])
+  unfolding openRefusal
+  here = let p = good-parts (bitAt image) frame in rw (eq-eqb _ _ long, p .0, p .1, p .2, one, two)
+
+  pub seven-opened : (openOf image ≡ Refused (numbered badPair)) ↔ (pairOf (wordKind (firstWord image)) (wordKind (secondWord image)) ≡ false)
+  unfolding openOf
+  seven-opened =
+      let q = seven (pairOf (wordKind (firstWord image)) (wordKind (secondWord image))) (wordTrouble (firstWord image)) (wordTrouble (secondWord image)) in
+      let value = Pair (wordMessage (firstWord image)) (wordMessage (secondWord image)) in (
+        λ e. q .0 (sym here ∙ answer-not Refused value (openRefusal image) (numbered badPair) (λ z. zero-one (cc)) (λ x z. cc) e .0),
+        λ e. answer-refused Refused value (here ∙ q .1 e) (λ z. omega arith),
+      )
 
 -- ---- the zeroed image
 

@@ -54,7 +54,7 @@ cause-from Spare = refl
 cause-from Unused = refl
 cause-from TooWide = refl
 
-cause-number : (c : Cause) → badPattern ≤ causeNumber c
+pub cause-number : (c : Cause) → badPattern ≤ causeNumber c
 cause-number c = in-between badPattern tooWide (causeNumber c) (cause-from c) .0
 
 -- a refusal, and no success

@@ -28,7 +28,7 @@ use Rattle.bits.proofs.TestLaws.{both-true}
 use Rattle.refusal.proofs.CheckLaws.{Passed, AllInMessage, AllNumbered, success-passed, passed-success, first-told}
 use Rattle.units.proofs.Order.{alike}
 use Rattle.units.proofs.Undo.{offset-back, too-far-back}
-use Rattle.pair.proofs.Demand2.{opened-closes, closed-opens}
+use Rattle.pair.proofs.Demand2.{opened-closes, closed-opens, opened-as}
 use Rattle.pair.proofs.FirstTrouble.{open-bits, open-numbers}
 use Rattle.shift.proofs.Theorems.{Nearby, shifted-nearby, Lands, lands-exactly, shifted-empty, empty-lands, TakesBack, axes-back, both-back, back-lands, lands-near}
 use Rattle.relay.proofs.RelayLaws.{open-refused, opened-legal, messages, refusal-opened, image-opened, shifted-closes}
@@ -63,17 +63,13 @@ pub record Carried (image : List ℕ) (xs ys : List ℤ) (after : List ℕ) : Ty
   pub one : Nearby (firstMessage image) xs ys (firstMessage after)
   pub two : Nearby (secondMessage image) xs ys (secondMessage after)
 
--- an image that opens does so as its two messages
-as-messages : (image : List ℕ) (first second : Message) → openOf image ≡ Pair first second → openOf image ≡ Pair (firstMessage image) (secondMessage image)
-as-messages image first second e = let p = messages first second image e in e ∙ sym (ap₂ Pair (p .1) (p .2))
-
 module _ (image : List ℕ) (xs ys : List ℤ) (buffer : List ℕ) where
   came-open : relayRefusal image xs ys buffer ≡ numbered success → openOf image ≡ Pair (firstMessage image) (secondMessage image)
   came-open e = go (openOf image) refl
     where
       go : (o : Opened) → openOf image ≡ o → openOf image ≡ Pair (firstMessage image) (secondMessage image)
       go (Refused r) f = let p = open-refused image xs ys buffer r f in absurd (p .1 (ap (λ (x : Refusal). x .number) (sym (p .0) ∙ e)))
-      go (Pair first second) f = as-messages image first second f
+      go (Pair first second) f = opened-as first second image f
 
   -- the image opens, the buffer has sixteen octets, the lists are short and in range, and every nearest step is one of the link
   pub relay-exactly :
@@ -120,7 +116,7 @@ module _ (image : List ℕ) (xs ys : List ℤ) (buffer : List ℕ) where
     relay-nearest =
         record {
           came = came-open e;
-          goes = as-messages _ _ _ (goes-on _ _ image (came-open e) xs ys buffer e);
+          goes = opened-as _ _ _ (goes-on _ _ image (came-open e) xs ys buffer e);
           one = subst (Nearby (firstMessage image) xs ys) (sym (after-is .0)) (shifted-nearby (firstMessage image) xs ys);
           two = subst (Nearby (secondMessage image) xs ys) (sym (after-is .1)) (shifted-nearby (secondMessage image) xs ys);
         }
