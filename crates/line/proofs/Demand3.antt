@@ -14,8 +14,8 @@ use Rattle.refusal.specs.Refusals.{numbered, success}
 use Rattle.refusal.specs.declared.Refusal.{Refusal}
 use Rattle.frame.specs.Frame.{goodFrame}
 use Rattle.line.specs.Levels.{refused, kept, bitsAfter, bitsOf, decoded}
-use Rattle.line.specs.Machine.{nothingHanded, answerWith, refusedBy, heardOf, run}
-use Rattle.line.specs.Hearing.{lastFrame, endsGood, toldOf, told, swap}
+use Rattle.line.specs.Machine.{nothingHanded, answerWith, heardOf, run}
+use Rattle.line.specs.Hearing.{lastFrame, endsGood, toldOf, toldRefused, told, swap}
 use Rattle.line.specs.Sending.{levelsAfter, imageBits, sendChecks, sendRefusal, sendLevels}
 use Rattle.line.specs.declared.Heard.{Heard}
 use Rattle.bits.proofs.TestLaws.{both-true, clash}
@@ -75,7 +75,7 @@ pub frame-means : (ls : List ℕ) (l : ℕ) → heardOf (run ls) l .frame ≡ tr
 frame-means ls l f = go (refused l) refl (sym (ap (λ (h : Heard). h .frame) (demand3 ls l)) ∙ f)
   where
     go : (t : Bool) → refused l ≡ t
-        → pick t (refusedBy (run ls)) (toldOf (ls ++ l ∷ []) (decoded (ls ++ l ∷ []))) .frame ≡ true
+        → pick t (toldRefused ls) (toldOf (ls ++ l ∷ []) (decoded (ls ++ l ∷ []))) .frame ≡ true
         → (l ≤ 1) × (endsGood (decoded (ls ++ l ∷ [])) ≡ true)
     go true e g = absurd (clash g refl)
     go false e g = (ltb-false 1 l e, g)
@@ -135,12 +135,12 @@ said h = (h .refusal, h .frame, h .image)
 
 -- the same by the test of the level and the bits decoded
 abbrev sayTold : Bool → List ℕ → (Refusal × Bool × List ℕ)
-sayTold t bits = said (pick t (refusedBy (run [])) (toldOf [] bits))
+sayTold t bits = said (pick t (toldRefused []) (toldOf [] bits))
 
 said-told : (ls : List ℕ) (l : ℕ) → said (heardOf (run ls) l) ≡ sayTold (refused l) (decoded (ls ++ l ∷ []))
 said-told ls l = ap said (demand3 ls l) ∙ go (refused l)
   where
-    go : (t : Bool) → said (pick t (refusedBy (run ls)) (toldOf (ls ++ l ∷ []) (decoded (ls ++ l ∷ [])))) ≡ sayTold t (decoded (ls ++ l ∷ []))
+    go : (t : Bool) → said (pick t (toldRefused ls) (toldOf (ls ++ l ∷ []) (decoded (ls ++ l ∷ [])))) ≡ sayTold t (decoded (ls ++ l ∷ []))
     go true = refl
     go false = refl
 

@@ -101,7 +101,7 @@ module _ (w : Window) (h : List ℕ) (low : Low w (valFrom idle h)) (bits : Bits
 
 -- ---- runs
 
-run-snoc : (s : Receiver) (ls : List ℕ) (l : ℕ) → runFrom s (ls ++ l ∷ []) ≡ heardOf (runFrom s ls) l .receiver
+pub run-snoc : (s : Receiver) (ls : List ℕ) (l : ℕ) → runFrom s (ls ++ l ∷ []) ≡ heardOf (runFrom s ls) l .receiver
 run-snoc s [] l = refl
 run-snoc s (x ∷ ls) l = run-snoc (heardOf s x .receiver) ls l
 

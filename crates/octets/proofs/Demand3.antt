@@ -1,20 +1,23 @@
--- DEMAND 3 for the octet receiver, through the equality with the first; and the same by positions in a run of octets. Assumes nothing.
-use mathlib.Core.Path.{_≡_, sym, ap, ap₂, _∙_}
-use mathlib.Core.Bool.{Bool, true}
+-- DEMAND 3 for the octet receiver, through the equality with the first; the same by positions in a run of octets; and the whole answer to
+-- an octet. Assumes nothing.
+use mathlib.Core.Path.{_≡_, refl, sym, ap, ap₂, _∙_}
+use mathlib.Core.Bool.{Bool, true, false}
 use mathlib.Core.List.{List, [], _∷_, _++_}
 use Prim.Native.Nat.{ℕ, zero, suc, _+_, _-_, _*_, _≤_, _<_}
 use native.Mathlib.Nat.{add-suc}
 use native.Mathlib.Omega.{arith}
-use borrow.Author.Tests.{le-ltb, le-leb, lt-leb, leb-true}
-use lib.Dec.{leb}
+use borrow.Author.Tests.{lt-ltb, le-ltb, le-leb, lt-leb, leb-true, eq-eqb, ne-eqb}
+use lib.Dec.{ltb, leb}
 use lib.ListN.{length, getD}
 use Rattle.bits.specs.Tests.{both}
 use Rattle.bits.specs.Octets.{AreOctets, bitAt, octetsOf}
 use Rattle.frame.specs.Frame.{goodFrame, frameAt}
 use Rattle.line.specs.Levels.{bitsOf, decoded}
+use Rattle.line.specs.Machine.{windowImage}
 use Rattle.line.specs.Hearing.{lastFrame, endsGood, toldBy}
 use Rattle.line.specs.Sending.{next, levelsAfter}
 use Rattle.line.specs.declared.Handed.{Handed}
+use Rattle.line.specs.declared.Window.{Window}
 use Rattle.bits.proofs.TestLaws.{by-lt, both-true}
 use Rattle.bits.proofs.NumberLaws.{length-tab, getD-tab, tab-more}
 use Rattle.bits.proofs.OctetLaws.{bit-lt, octets-ext}
@@ -22,8 +25,10 @@ use Rattle.frame.proofs.FrameLaws.{good-ext, apart}
 use Rattle.line.proofs.WindowLaws.{Bits, more, bits-tab}
 use Rattle.line.proofs.LevelLaws.{lastOf, kept-all, bits-last, told-bits, levels-bits, levels-snoc}
 use Rattle.line.proofs.Demand3.{demand3}
-use Rattle.octets.specs.Feeding.{heardAt}
-use Rattle.octets.specs.Hearing.{firstBits, handedBy, framedAt, handedAt}
+use Rattle.octets.specs.Feeding.{taken, endBit, answerAt, fedTo, heardAt}
+use Rattle.octets.specs.Hearing.{firstBits, firstFrom, goodBit, toldFrame, octetWith, toldOctet, handedBy, framedAt, handedAt}
+use Rattle.octets.specs.declared.HeardOctet.{HeardOctet}
+use Rattle.octets.proofs.AnswerLaws.{bit-le}
 use Rattle.octets.proofs.Equality.{equality}
 
 -- ---- some levels decode to any octets' bits, so the equality speaks of every run of octets
@@ -117,3 +122,57 @@ module _ (octets : List ℕ) (small : AreOctets octets) where
       let a = framed-means k j p q f in
       let b = framed-means m i r s g in
       omega (arith, apart (bitAt octets) (8 * k + j - 128) (8 * m + i - 128) (a .1) (b .1) (omega (arith, a .0, b .0)), a .0, b .0)
+
+-- ---- the whole answer to an octet
+
+first-none : (f : ℕ → Bool) (count from : ℕ) → ((j : ℕ) → from ≤ j → j < from + count → f j ≡ false) → firstFrom from count f ≡ 0
+unfolding firstFrom
+first-none f zero from h = refl
+first-none f (suc n) from h = rw (h from (omega arith) (omega arith)) (first-none f n (suc from) (λ j p q. h j (omega arith) (omega arith)))
+
+first-one : (f : ℕ → Bool) (count from j : ℕ) → from ≤ j → j < from + count → f j ≡ true → ((i : ℕ) → from ≤ i → i < j → f i ≡ false)
+    → firstFrom from count f ≡ j
+unfolding firstFrom
+first-one f zero from j p q g h = absurd (omega arith)
+first-one f (suc n) from j p q g h =
+    by-lt from j
+    (λ after. rw (h from (omega arith) after) (first-one f n (suc from) j after (omega arith) g (λ i a b. h i (omega arith) b)))
+    (λ at.
+    let e : from ≡ j = omega arith in
+    rw (e, g))
+
+module _ (octets : List ℕ) (small : AreOctets octets) where
+  -- The whole answer to octet k is what the bits say: the bit at which a good frame ended and that frame, or no frame, 0 and zero octets.
+  pub octets-demand3 : (k : ℕ) → heardAt octets k ≡ toldOctet octets k
+  unfolding fedTo
+  octets-demand3 k = go (endBit w o) refl
+    where
+      w : Window
+      w = fedTo octets k .window
+
+      o : ℕ
+      o = getD octets k 0
+
+      -- what the bits say, if they say bit b
+      by : ℕ → HeardOctet
+      by b = octetWith (fedTo octets (suc k)) b (toldFrame octets k b)
+
+      -- by bits, if the receiver answers bit b
+      told : (b j : ℕ) → endBit w o ≡ b → 1 ≤ j → j ≤ 8 → handedAt (answerAt w o b) j ≡ toldBy (firstBits octets (8 * k + j))
+      told b j e p q = sym (ap (λ (b : ℕ). handedAt (answerAt w o b) j) e) ∙ octets-told octets small k j p q
+
+      ends : (b j : ℕ) → endBit w o ≡ b → 1 ≤ j → j ≤ 8 → endsGood (firstBits octets (8 * k + j)) ≡ framedAt (answerAt w o b) j
+      ends b j e p q = sym (ap (λ (h : Handed). h .frame) (told b j e p q))
+
+      go : (b : ℕ) → endBit w o ≡ b → heardAt octets k ≡ toldOctet octets k
+      go zero e = ap (answerAt w o) e ∙ sym (ap by (first-none _ 8 1 (λ j p q. ends 0 j e p (omega arith))))
+      go (suc i) e =
+          let few : suc i ≤ 8 = omega (arith, bit-le w o) in
+          let t : ltb 0 (suc i) ≡ true = lt-ltb 0 (suc i) (omega arith) in
+          let held : handedAt (answerAt w o (suc i)) (suc i) ≡ record { frame = true; image = windowImage (taken w o (suc i)) } = rw (t, eq-eqb (suc i) (suc i) refl) in
+          let is : record { frame = true; image = windowImage (taken w o (suc i)) } ≡ toldBy (firstBits octets (8 * k + suc i)) =
+          sym held ∙ told (suc i) (suc i) e (omega arith) few in
+          let g : endsGood (firstBits octets (8 * k + suc i)) ≡ true = sym (ap (λ (h : Handed). h .frame) is) in
+          let first : goodBit octets k ≡ suc i =
+          first-one _ 8 1 (suc i) (omega arith) (omega arith) g (λ j p q. ends (suc i) j e p (omega arith) ∙ ap₂ both t (ne-eqb (suc i) j (λ x. omega arith))) in
+          ap (answerAt w o) e ∙ rw t (ap (octetWith (fedTo octets (suc k)) (suc i)) (is ∙ rw g)) ∙ sym (ap by first)

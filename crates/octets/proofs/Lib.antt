@@ -2,3 +2,4 @@ mod TakeLaws
 pub mod AnswerLaws
 pub mod Equality
 pub mod Demand3
+pub mod OfCalls
