@@ -79,7 +79,7 @@ seventh-free = frames.seventh-free
 
 -- 'groups 1 to 7 carry the first message's bits 1 to 49 in rising order, groups 8 to 14 the second's': message bit 7 (g - 1) + j of message k is bit j of data group 7 (k - 1) + g
 pub groups-carry : (k g j : ℕ) → 1 ≤ k → k ≤ 2 → 1 ≤ g → g ≤ 7 → 1 ≤ j → j ≤ 7 → placeOf k (7 * (g - 1) + j) ≡ 8 * (7 * (k - 1) + g) + 1 + j
-groups-carry k g j _ _ _ _ _ _ = omega arith
+groups-carry k g j a b c d e f = omega arith
 
 -- an image is accepted exactly if it has sixteen octets that are a good frame
 pub verdict-exactly : {image : List ℕ} {r : Refusal} → Judges image r → (r ≡ numbered 0) ↔ ((length image ≡ 16) × (goodFrame (bitAt image) ≡ true))
@@ -137,9 +137,9 @@ accepted-closes {image} {buffer} {after} {first} {second} o c sixteen =
 pub zeroed-opens : {image : List ℕ} {first second : Message} {o : Opened} → Opens image (Pair first second) → Opens (zeroedImage image) o → o ≡ Pair first second
 zeroed-opens {image} {first} {second} o p = opened p ∙ pairs.zeroed-opens first second image (sym (opened o))
 
-pub zeroed-closes : {image buffer after : List ℕ} {first second : Message} {r : Refusal} → Opens (zeroedImage image) (Pair first second) → Closes first second buffer r after
+pub zeroed-closes : (image : List ℕ) {buffer after : List ℕ} {first second : Message} {r : Refusal} → Opens (zeroedImage image) (Pair first second) → Closes first second buffer r after
     → length buffer ≡ 16 → (r ≡ numbered 0) × (after ≡ zeroedImage image)
-zeroed-closes {image} {buffer} {after} {first} {second} o c sixteen =
+zeroed-closes image {buffer} {after} {first} {second} o c sixteen =
     let p = pairs.zeroed-closes first second image (sym (opened o)) buffer sixteen in (closed c .0 ∙ p .0, closed c .1 ∙ p .1)
 
 pub zeroed-once : (image : List ℕ) → zeroedImage (zeroedImage image) ≡ zeroedImage image
@@ -169,3 +169,179 @@ pub pair-unclosed : {first second : Message} {buffer after : List ℕ} {r : Refu
     → (r ≡ numbered 7) ↔ (pairOf (kindOf first) (kindOf second) ≡ false)
 pair-unclosed {first} {second} {buffer} c sixteen =
     (λ e. pairs.seven-closed first second buffer sixteen .0 (sym (closed c .0) ∙ e), λ e. closed c .0 ∙ pairs.seven-closed first second buffer sixteen .1 e)
+
+-- S.0 is followed by S.0 only, and follows nothing else
+pub test-pairs : (first second : Kind)
+    → (isIn first (S0 ∷ []) ≡ true → pairOf first second ≡ isIn second (S0 ∷ [])) × (isIn second (S0 ∷ []) ≡ true → pairOf first second ≡ isIn first (S0 ∷ []))
+test-pairs first second = (
+  rules.followed-means (S0 ∷ []) (S0 ∷ []) first second (pairOf first second) (rules.rule-at first second 0),
+  rules.follows-means (S0 ∷ []) (S0 ∷ []) first second (pairOf first second) (rules.rule-at first second 1),
+)
+
+-- S.4+ and S.8+ are followed by S.3 or S.5, and are never second
+pub plus-pairs : (first second : Kind)
+    → (isIn first (S4Plus ∷ S8Plus ∷ []) ≡ true → pairOf first second ≡ isIn second (S3 ∷ S5 ∷ [])) × (isIn second (S4Plus ∷ S8Plus ∷ []) ≡ true → pairOf first second ≡ false)
+plus-pairs first second = (
+  rules.followed-means (S4Plus ∷ S8Plus ∷ []) (S3 ∷ S5 ∷ []) first second (pairOf first second) (rules.rule-at first second 2),
+  rules.follows-means (S4Plus ∷ S8Plus ∷ []) [] first second (pairOf first second) (rules.rule-at first second 3),
+)
+
+-- S.4, S.6 and S.8 are followed by S.4, S.6, S.8 or Blank
+pub track-pairs : (first second : Kind) → isIn first (S4 ∷ S6 ∷ S8 ∷ []) ≡ true → pairOf first second ≡ isIn second (S4 ∷ S6 ∷ S8 ∷ Blank ∷ [])
+track-pairs first second = rules.followed-means (S4 ∷ S6 ∷ S8 ∷ []) (S4 ∷ S6 ∷ S8 ∷ Blank ∷ []) first second (pairOf first second) (rules.rule-at first second 4)
+
+-- Blank, S.3 and S.5 are never first
+pub never-first : (first second : Kind) → isIn first (Blank ∷ S3 ∷ S5 ∷ []) ≡ true → pairOf first second ≡ false
+never-first first second = rules.followed-means (Blank ∷ S3 ∷ S5 ∷ []) [] first second (pairOf first second) (rules.rule-at first second 5)
+
+-- S.9 may stand only as S.9 followed by S.9
+pub corner-pairs : (first second : Kind)
+    → (isIn first (S9 ∷ []) ≡ true → pairOf first second ≡ isIn second (S9 ∷ [])) × (isIn second (S9 ∷ []) ≡ true → pairOf first second ≡ isIn first (S9 ∷ []))
+corner-pairs first second = (
+  rules.followed-means (S9 ∷ []) (S9 ∷ []) first second (pairOf first second) (rules.rule-at first second 6),
+  rules.follows-means (S9 ∷ []) (S9 ∷ []) first second (pairOf first second) (rules.rule-at first second 7),
+)
+
+-- that is 18 pairs of 100
+pub pairs-counted : sumOf (λ row. sumOf (λ column. bit (pairOf (getD allKinds row Blank) (getD allKinds column Blank))) 10) 10 ≡ 18
+unfolding pairOf sumOf
+pairs-counted = refl
+
+-- ---- the search
+
+-- a good frame lies whole at a position: all its 128 bits lie in the capture, whose first bit has position 0
+pub lies-whole : (capture : List ℕ) (p : ℕ) → (goodAt capture p ≡ true) ↔ ((p + 128 ≤ 8 * length capture) × (goodFrame (λ n. bitAt capture (p + n)) ≡ true))
+unfolding goodAt
+lies-whole capture p = (
+  λ e. let w = both-true {a = leb (p + 128) (8 * length capture)} {b = goodFrame (frameAt capture p)} e in (leb-true _ _ (w .0), w .1),
+  λ w i. both (le-leb _ _ (w .0) i) (w .1 i),
+)
+
+-- the answer is the least position from the start on at which a good frame lies whole
+pub search-finds : {capture : List ℕ} {start : ℕ} {f : Found} → Searches capture start f → (p : ℕ)
+    → (f ≡ F.At p)
+    ↔ ((length capture ≤ 65536)
+    × (start ≤ 8 * length capture)
+    × ((start ≤ p) × (goodAt capture p ≡ true) × ((q : ℕ) → start ≤ q → q < p → goodAt capture q ≡ false)))
+search-finds {capture} {start} s p = (λ e. search.found-exactly capture start p .0 (sym (searched s) ∙ e), λ w. searched s ∙ search.found-exactly capture start p .1 w)
+
+-- 2 for a capture over 65,536 octets
+pub search-too-long : {capture : List ℕ} {start : ℕ} {f : Found} → Searches capture start f → (f ≡ F.Refused (numbered 2)) ↔ (65536 < length capture)
+search-too-long {capture} {start} s = (λ e. search.long-exactly capture start .0 (sym (searched s) ∙ e), λ w. searched s ∙ search.long-exactly capture start .1 w)
+
+-- 9 for a start past the capture's end
+pub search-past-end : {capture : List ℕ} {start : ℕ} {f : Found} → Searches capture start f
+    → (f ≡ F.Refused (numbered 9)) ↔ ((length capture ≤ 65536) × (8 * length capture < start))
+search-past-end {capture} {start} s = (λ e. search.past-exactly capture start .0 (sym (searched s) ∙ e), λ w. searched s ∙ search.past-exactly capture start .1 w)
+
+-- 10 where no good frame lies at or after the start
+pub search-none : {capture : List ℕ} {start : ℕ} {f : Found} → Searches capture start f
+    → (f ≡ F.Refused (numbered 10)) ↔ ((length capture ≤ 65536) × (start ≤ 8 * length capture) × ((p : ℕ) → start ≤ p → goodAt capture p ≡ false))
+search-none {capture} {start} s = (λ e. search.none-exactly capture start .0 (sym (searched s) ∙ e), λ w. searched s ∙ search.none-exactly capture start .1 w)
+
+-- ---- the shift, which is the relay's (02, item 6)
+
+-- where a message has a position, the step nearest to 750 times its old X, or Y, plus the sum of the list lies in -4096 to 4095
+abbrev pub InRange : Message → List ℤ → List ℤ → Type 0
+InRange m xs ys =
+    isSomewhere (positionOf m) ≡ true
+    → ((n : ℤ) → Nearest 750 (pos 750 *ℤ xOf (positionOf m) +ℤ sumZ xs) n → isStep n ≡ true)
+    × ((n : ℤ) → Nearest 750 (pos 750 *ℤ yOf (positionOf m) +ℤ sumZ ys) n → isStep n ≡ true)
+
+-- a relay is taken exactly if the image opens, the buffer has sixteen octets, each list has at most eight offsets, each from -6,144,000 to 6,144,000, and every nearest step is in range
+pub relay-exactly : {image : List ℕ} {xs ys : List ℤ} {buffer after : List ℕ} {r : Refusal} → Relays image xs ys buffer r after
+    → (r ≡ numbered 0)
+    ↔ ((openOf image ≡ Pair (firstMessage image) (secondMessage image))
+    × (length buffer ≡ 16)
+    × (length xs ≤ 8)
+    × (length ys ≤ 8)
+    × (areOffsets xs ≡ true)
+    × (areOffsets ys ≡ true)
+    × InRange (firstMessage image) xs ys
+    × InRange (secondMessage image) xs ys)
+relay-exactly {image} {xs} {ys} {buffer} x =
+    (λ e. relays.relay-exactly image xs ys buffer .0 (sym (relayed x .0) ∙ e), λ w. relayed x .0 ∙ relays.relay-exactly image xs ys buffer .1 w)
+
+-- a message m becomes n: each axis of its position is nearest to the exact sum in feet, a half away from zero, and all else is as it was; one without a position passes through
+abbrev pub Shifts : Message → List ℤ → List ℤ → Message → Type 0
+Shifts m xs ys n =
+    (n ≡ placedAt m (xOf (positionOf n)) (yOf (positionOf n)))
+    × (isSomewhere (positionOf m) ≡ true → Nearest 750 (pos 750 *ℤ xOf (positionOf m) +ℤ sumZ xs) (xOf (positionOf n)))
+    × (isSomewhere (positionOf m) ≡ true → Nearest 750 (pos 750 *ℤ yOf (positionOf m) +ℤ sumZ ys) (yOf (positionOf n)))
+    × (isSomewhere (positionOf m) ≡ false → n ≡ m)
+
+-- what is written opens as the pair that came, both messages so shifted
+pub relay-nearest : {image : List ℕ} {xs ys : List ℤ} {buffer after : List ℕ} {first second : Message} {o : Opened}
+    → Opens image (Pair first second) → Relays image xs ys buffer (numbered 0) after → Opens after o
+    → (m : Message) × (n : Message) × (o ≡ Pair m n) × Shifts first xs ys m × Shifts second xs ys n
+relay-nearest {image} {xs} {ys} {buffer} {after} {first} {second} {o} came x goes =
+    let c = relays.relay-nearest image xs ys buffer (sym (relayed x .0)) in
+    let is : relayImage image xs ys buffer ≡ after = sym (relayed x .1) in
+    let pair : Pair (firstMessage image) (secondMessage image) ≡ Pair first second = sym (c .came) ∙ sym (opened came) in
+    let one : firstMessage image ≡ first = cc in
+    let two : secondMessage image ≡ second = cc in
+    let a = c .one in
+    let b = c .two in (
+      firstMessage (relayImage image xs ys buffer),
+      secondMessage (relayImage image xs ys buffer),
+      opened goes ∙ ap openOf (sym is) ∙ c .goes,
+      subst (λ (m : Message). Shifts m xs ys (firstMessage (relayImage image xs ys buffer))) one (a .else, a .x, a .y, a .still),
+      subst (λ (m : Message). Shifts m xs ys (secondMessage (relayImage image xs ys buffer))) two (b .else, b .x, b .y, b .still),
+    )
+
+-- there is only one nearest step
+pub nearest-only : (k : ℕ) (f n m : ℤ) → 0 < k → Nearest k f n → Nearest k f m → n ≡ m
+nearest-only = nearest.nearest-only
+
+-- ---- altitude
+
+-- 375 feet and below give 1
+pub altitude-low : {feet : ℤ} {h : Height} → Climbs feet h → leZ feet (pos 375) ≡ true → h ≡ H.At (record { 0 = 1 })
+altitude-low {feet} c p = climbed c ∙ nearest.height-low feet p
+
+-- otherwise the nearest multiple of 375, which is given exactly if it is not over 511; a result over 511 is refused 9
+pub altitude-near : {feet : ℤ} {h : Height} → Climbs feet h → leZ feet (pos 375) ≡ false → (n : ℕ) → Nearest 375 feet (pos n)
+    → ((h ≡ H.At (record { 0 = n })) ↔ (n ≤ 511)) × ((h ≡ H.Refused (numbered 9)) ↔ (511 < n))
+altitude-near {feet} c p n near = (
+  (λ e. nearest.height-exactly feet p n near .0 (sym (climbed c) ∙ e), λ w. climbed c ∙ nearest.height-exactly feet p n near .1 w),
+  (λ e. nearest.too-high-exactly feet p n near .0 (sym (climbed c) ∙ e), λ w. climbed c ∙ nearest.too-high-exactly feet p n near .1 w),
+)
+
+-- the conversion never gives 0, and nothing over 511
+pub altitude-range : {feet : ℤ} {n : ℕ} → Climbs feet (H.At (record { 0 = n })) → (1 ≤ n) × (n ≤ 511)
+altitude-range {feet} {n} c = nearest.height-range feet (record { 0 = n }) (sym (climbed c))
+
+-- ---- labels
+
+-- a label names a kind exactly if it is that kind's, and is refused 6 exactly if it is no kind's
+pub label-named : {label : ℕ} {n : Named} → Names label n → (k : Kind) → (n ≡ N.Kind k) ↔ (label ≡ labelOf k)
+label-named {label} x k = (λ e. labels.names-exactly label k .0 (sym (named x) ∙ e), λ w. named x ∙ labels.names-exactly label k .1 w)
+
+pub label-unknown : {label : ℕ} {n : Named} → Names label n → (n ≡ N.Refused (numbered 6)) ↔ ((k : Kind) → label ≡ labelOf k → ⊥)
+label-unknown {label} x = (λ e. labels.unknown-exactly label .0 (sym (named x) ∙ e), λ w. named x ∙ labels.unknown-exactly label .1 w)
+
+-- ---- track number text
+
+-- a number is written exactly if the buffer has five octets and the number is at most 32767
+pub text-exactly : {number : ℕ} {buffer after : List ℕ} {r : Refusal} → Spells number buffer r after → (r ≡ numbered 0) ↔ ((length buffer ≡ 5) × (number < 32768))
+unfolding textRefusal
+text-exactly {number} {buffer} s = (
+  λ e. let p = success-exactly (textChecks number buffer) refl .0 (sym (spelled s .0) ∙ e) in (eqb-true _ _ (p .0), ltb-true _ _ (p .1 .0)),
+  λ w. spelled s .0 ∙ success-exactly (textChecks number buffer) refl .1 (eq-eqb _ _ (w .0), (lt-ltb _ _ (w .1), tt)),
+)
+
+-- a text is read exactly if it has five characters, two letters of A E G H J K L M and three digits 0 to 7 (`isText`)
+pub number-exactly : {text : List ℕ} {t : Tracked} → Numbers text t → ((n : ℕ) × (t ≡ T.Number n)) ↔ ((length text ≡ 5) × (isText text ≡ true))
+number-exactly {text} x = (
+  λ w. texts.reads-exactly text .0 (w .0, sym (numbered-as x) ∙ w .1),
+  λ w. let p = texts.reads-exactly text .1 w in (p .0, numbered-as x ∙ p .1),
+)
+
+-- number to text to number, and text to number to text
+pub text-reads : {number : ℕ} {buffer after : List ℕ} {t : Tracked} → Spells number buffer (numbered 0) after → Numbers after t → t ≡ T.Number number
+text-reads {number} {buffer} s x = numbered-as x ∙ ap trackedOf (spelled s .1) ∙ texts.written-reads number buffer (sym (spelled s .0))
+
+pub number-writes : {text buffer after : List ℕ} {number : ℕ} {r : Refusal} → Numbers text (T.Number number) → Spells number buffer r after → length buffer ≡ 5
+    → (r ≡ numbered 0) × (after ≡ text)
+number-writes {text} {buffer} {after} {number} x s five =
+    let p = texts.read-writes text buffer number (sym (numbered-as x)) five in (spelled s .0 ∙ p .0, spelled s .1 ∙ p .1)

@@ -3,6 +3,7 @@
 use mathlib.Core.Path.{_≡_, refl, ap, _∙_}
 use mathlib.Core.Bool.{Bool, true}
 use mathlib.Core.List.{List, [], _∷_, map}
+use Prim.Native.Nat.{ℕ, zero, suc}
 use lib.ListN.{length, getD}
 use contract.Lifetimes.{Lfts}
 use Rattle.bits.specs.Tests.{both, agree, implies}
@@ -12,6 +13,7 @@ use Rattle.kind.specs.Layouts.{allKinds}
 use Rattle.kind.specs.declared.Kind.{Kind}
 use Rattle.kind.specs.declared.Kind.the-variants.{Blank, S0, S3, S4, S4Plus, S5, S6, S8, S8Plus, S9}
 use Rattle.pair.specs.Pairs.{isIn, pairOf}
+use Rattle.bits.proofs.TestLaws.{agree-is, implied, both-true}
 use Rattle.kind.proofs.TableLaws.{each}
 use Rattle.pair.proofs.is_pair.Reads as is-pair
 
@@ -27,23 +29,29 @@ follows seconds firsts first second answer = implies (isIn second seconds) (agre
 
 -- S.0 is followed by S.0 only, and follows nothing else; S.4+ and S.8+ are followed by S.3 or S.5, and are never second; S.4, S.6 and S.8 are followed by S.4, S.6, S.8 or Blank;
 -- Blank, S.3 and S.5 are never first; S.9 stands only as S.9 followed by S.9
-abbrev pub pairRules : Kind → Kind → Bool → Bool
+abbrev pub pairRules : Kind → Kind → Bool → List Bool
 pairRules first second answer =
-    both (followedBy (S0 ∷ []) (S0 ∷ []) first second answer)
-    (both (follows (S0 ∷ []) (S0 ∷ []) first second answer)
-    (both (followedBy (S4Plus ∷ S8Plus ∷ []) (S3 ∷ S5 ∷ []) first second answer)
-    (both (follows (S4Plus ∷ S8Plus ∷ []) [] first second answer)
-    (both (followedBy (S4 ∷ S6 ∷ S8 ∷ []) (S4 ∷ S6 ∷ S8 ∷ Blank ∷ []) first second answer)
-    (both (followedBy (Blank ∷ S3 ∷ S5 ∷ []) [] first second answer)
-    (both (followedBy (S9 ∷ []) (S9 ∷ []) first second answer) (follows (S9 ∷ []) (S9 ∷ []) first second answer)))))))
+    followedBy (S0 ∷ []) (S0 ∷ []) first second answer
+    ∷ follows (S0 ∷ []) (S0 ∷ []) first second answer
+    ∷ followedBy (S4Plus ∷ S8Plus ∷ []) (S3 ∷ S5 ∷ []) first second answer
+    ∷ follows (S4Plus ∷ S8Plus ∷ []) [] first second answer
+    ∷ followedBy (S4 ∷ S6 ∷ S8 ∷ []) (S4 ∷ S6 ∷ S8 ∷ Blank ∷ []) first second answer
+    ∷ followedBy (Blank ∷ S3 ∷ S5 ∷ []) [] first second answer
+    ∷ followedBy (S9 ∷ []) (S9 ∷ []) first second answer
+    ∷ follows (S9 ∷ []) (S9 ∷ []) first second answer
+    ∷ []
+
+abbrev pub allPass : List Bool → Bool
+allPass [] = true
+allPass (b ∷ bs) = both b (allPass bs)
 
 -- ---- one test of all entries
 
 abbrev kept : List Bool
 kept = map (λ (second : Kind). true) allKinds
 
-abbrev pub ruled : Kind → Kind → Bool
-ruled first second = pairRules first second (pairOf first second)
+abbrev ruled : Kind → Kind → Bool
+ruled first second = allPass (pairRules first second (pairOf first second))
 
 rules-kept : map (λ (first : Kind). map (ruled first) allKinds) allKinds ≡ map (λ (first : Kind). kept) allKinds
 unfolding pairOf
@@ -51,11 +59,28 @@ rules-kept = refl
 
 -- ---- the rules at any two kinds, of the definition and of what the code answers
 
-pub ruled-at : (first second : Kind) → ruled first second ≡ true
+ruled-at : (first second : Kind) → ruled first second ≡ true
 ruled-at first second = each (ruled first) (λ second. true) (each (λ (k : Kind). map (ruled k) allKinds) (λ k. kept) rules-kept first) second
 
-pub pair-rules : (κs : Lfts 0) (first second : Kind) (answer : Bool) (e : _) → is-pair.Post κs (first, (second, tt)) answer e → pairRules first second answer ≡ true
-pair-rules κs first second answer e p = ap (pairRules first second) p ∙ ruled-at first second
+pub pair-rules : (κs : Lfts 0) (first second : Kind) (answer : Bool) (e : _) → is-pair.Post κs (first, (second, tt)) answer e → allPass (pairRules first second answer) ≡ true
+pair-rules κs first second answer e p = ap (λ (t : Bool). allPass (pairRules first second t)) p ∙ ruled-at first second
+
+passes : (bs : List Bool) → allPass bs ≡ true → (i : ℕ) → getD bs i true ≡ true
+passes [] e i = refl
+passes (b ∷ bs) e zero = both-true {a = b} {b = allPass bs} e .0
+passes (b ∷ bs) e (suc i) = passes bs (both-true {a = b} {b = allPass bs} e .1) i
+
+-- rule i, from 0
+pub rule-at : (first second : Kind) (i : ℕ) → getD (pairRules first second (pairOf first second)) i true ≡ true
+rule-at first second = passes (pairRules first second (pairOf first second)) (ruled-at first second)
+
+-- what two rules say of the answer
+module _ (some others : List Kind) (first second : Kind) (answer : Bool) where
+  pub followed-means : followedBy some others first second answer ≡ true → isIn first some ≡ true → answer ≡ isIn second others
+  followed-means e h = agree-is answer (isIn second others) (implied (isIn first some) (agree answer (isIn second others)) e h)
+
+  pub follows-means : follows some others first second answer ≡ true → isIn second some ≡ true → answer ≡ isIn first others
+  follows-means e h = agree-is answer (isIn first others) (implied (isIn second some) (agree answer (isIn first others)) e h)
 
 -- how many of its answers are yes
 pub pairs-counted : (κs : Lfts 0) (table : Kind → Kind → Bool) (e : _) → ((first second : Kind) → is-pair.Post κs (first, (second, tt)) (table first second) e)

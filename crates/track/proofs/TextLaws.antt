@@ -2,6 +2,7 @@
 use mathlib.Core.Path.{_≡_, refl, sym, ap, _∙_}
 use mathlib.Core.Bool.{Bool, true, false}
 use mathlib.Core.List.{List, [], _∷_}
+use mathlib.Core.Logic.{_↔_}
 use Prim.Native.Nat.{ℕ, suc, _+_, _-_, _*_, _/_, _%_, _≤_, _<_}
 use native.Mathlib.Nat.{div-div-eq-div-mul}
 use native.Mathlib.Omega.{arith}
@@ -182,3 +183,14 @@ read-writes t buffer n e h =
     let is : textNumber t ≡ n = cc in
     let l = eqb-true (length t) 5 (p .0) in
     rw (← is, eq-eqb (length buffer) 5 h, lt-ltb (textNumber t) 32768 (number-lt t (p .1 .0))) (refl, number-back t l (p .1 .0))
+
+-- a text is read exactly if it has five characters that each have a code
+pub reads-exactly : (t : List ℕ) → ((n : ℕ) × (trackedOf t ≡ Number n)) ↔ ((length t ≡ 5) × (isText t ≡ true))
+unfolding trackedOf trackRefusal
+reads-exactly t = (
+  λ w.
+  let q = answer-is Refused (Number (textNumber t)) (trackRefusal t) (Number (w .0)) (λ r z. zero-one (cc)) (w .1) in
+  let p = success-passed (trackChecks t) refl (q .0) in
+  (eqb-true (length t) 5 (p .0), p .1 .0),
+  λ w. (textNumber t, a-text t (w .0) (w .1)),
+)
