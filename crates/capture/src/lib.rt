@@ -15,7 +15,7 @@ pub enum Found {
 }
 
 impl Found {
-    // The answer as a number and a place.
+    // The answer as a number, a place and a bit.
     pub fn refusal(self) -> Refusal
         ensures { λ r. ⌜ r ≡ refusalOf self ⌝ }
     {

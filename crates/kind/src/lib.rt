@@ -101,7 +101,7 @@ pub enum Named {
 }
 
 impl Named {
-    // The answer as a number and a place.
+    // The answer as a number, a place and a bit.
     pub fn refusal(self) -> Refusal
         ensures { λ r. ⌜ r ≡ refusalOf self ⌝ }
     {

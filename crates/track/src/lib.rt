@@ -13,7 +13,7 @@ pub enum Tracked {
 }
 
 impl Tracked {
-    // The answer as a number and a place.
+    // The answer as a number, a place and a bit.
     pub fn refusal(self) -> Refusal
         ensures { λ r. ⌜ r ≡ refusalOf self ⌝ }
     {

@@ -120,7 +120,7 @@ pub fn altitude(feet: Feet) -> Height
 }
 
 impl Height {
-    // The answer as a number and a place.
+    // The answer as a number, a place and a bit.
     pub fn refusal(self) -> Refusal
         ensures { λ r. ⌜ r ≡ refusalOf self ⌝ }
     {
