@@ -4,7 +4,7 @@ use mathlib.Core.Bool.{Bool, true, false}
 use mathlib.Core.List.{List, [], _∷_, _++_, map, append-assoc}
 use Prim.Native.Nat.{ℕ, zero, suc, _+_, _-_, _≤_, _<_}
 use native.Mathlib.Omega.{arith}
-use borrow.Author.Tests.{le-ltb, ltb-false}
+use borrow.Author.Tests.{le-ltb, lt-ltb, ltb-false}
 use lib.Dec.{eqb}
 use lib.ListN.{length, getD, set, length-append}
 use lib.Seq.{getD-append-seam, getD-append-add}
@@ -76,6 +76,23 @@ kept-append (x ∷ a) b = go (refused x) (kept-append a b)
 
 pub kept-snoc : (ls : List ℕ) (l : ℕ) → l ≤ 1 → kept (ls ++ l ∷ []) ≡ kept ls ++ l ∷ []
 kept-snoc ls l h = kept-append ls (l ∷ []) ∙ rw (le-ltb 1 l h)
+
+-- a bit for each level behind a level, and none for one that is refused
+bits-two : (ks : List ℕ) (a b : ℕ) → bitsOf (ks ++ a ∷ b ∷ []) ≡ bitsOf (ks ++ a ∷ []) ++ differ a b ∷ []
+bits-two [] a b = refl
+bits-two (k ∷ ks) a b =
+    ap (bitsAfter k) (sym (append-assoc ks (a ∷ []) (b ∷ []))) ∙ bits-append k (ks ++ a ∷ []) (b ∷ [])
+    ∙ ap (λ (c : ℕ). bitsAfter k (ks ++ a ∷ []) ++ differ c b ∷ []) (last-snoc k ks a)
+
+pub bit-more : (ls : List ℕ) (a b : ℕ) → a ≤ 1 → b ≤ 1 → decoded (ls ++ a ∷ b ∷ []) ≡ decoded (ls ++ a ∷ []) ++ differ a b ∷ []
+bit-more ls a b h l =
+    let two : kept (ls ++ a ∷ b ∷ []) ≡ kept ls ++ a ∷ b ∷ [] = kept-append ls (a ∷ b ∷ []) ∙ rw (le-ltb 1 a h, le-ltb 1 b l) in
+    ap bitsOf two ∙ bits-two (kept ls) a b ∙ ap (λ (ks : List ℕ). bitsOf ks ++ differ a b ∷ []) (sym (kept-snoc ls a h))
+
+pub refused-more : (ls ms : List ℕ) (l : ℕ) → 1 < l → decoded (ls ++ l ∷ ms) ≡ decoded (ls ++ ms)
+refused-more ls ms l h =
+    let gone : kept (ls ++ l ∷ ms) ≡ kept (ls ++ ms) = kept-append ls (l ∷ ms) ∙ rw (lt-ltb 1 l h) (sym (kept-append ls ms)) in
+    ap bitsOf gone
 
 pub kept-bits : (ls : List ℕ) → Bits (kept ls)
 kept-bits [] = none
