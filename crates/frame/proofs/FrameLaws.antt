@@ -18,7 +18,7 @@ use Rattle.refusal.specs.Checks.{check, firstRefusal}
 use Rattle.refusal.specs.declared.Refusal.{Refusal}
 use Rattle.frame.specs.Frame.{startGood, marksGood, checksGood, columnOf, goodFrame, frameVerdict, imageChecks, verdictOf, frameAt}
 use Rattle.bits.proofs.TestLaws.{by-lt, both-true, every-all, every-at, every-ext}
-use Rattle.refusal.proofs.CheckLaws.{Passed, success-passed}
+use Rattle.refusal.proofs.CheckLaws.{Passed, success-passed, passed-success}
 use Rattle.bits.proofs.NumberLaws.{num-ext, num-ones, sum-ext, sum-more}
 use Rattle.bits.proofs.OctetLaws.{bit-lt, octet-back}
 
@@ -122,6 +122,12 @@ module _ (b : ℕ → ℕ) (good : goodFrame b ≡ true) where
 
   pub column-odd : (i : ℕ) → i < 6 → columnOf b (i + 1) % 2 ≡ 1
   column-odd i h = eqb-true _ _ (every-at _ 6 (good-parts .2) i h)
+
+-- sixteen octets that are a good frame are accepted
+pub verdict-by : (image : List ℕ) → length image ≡ 16 → goodFrame (bitAt image) ≡ true → verdictOf image ≡ numbered success
+unfolding verdictOf
+verdict-by image size good =
+    let p = good-parts (bitAt image) good in passed-success (imageChecks image) (eq-eqb _ _ size, (p .0, (p .1, (p .2, tt))))
 
 -- ---- a good frame, exactly (001, Annex A, Appendix 3, paragraphs 2 and 3)
 

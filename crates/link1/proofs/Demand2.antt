@@ -20,7 +20,7 @@ use Rattle.bits.specs.Layout.{bit}
 use Rattle.bits.specs.declared.Trouble.the-variants.{Nothing}
 use Rattle.refusal.specs.Refusals.{numbered, badLength, outOfRange, noFrame, unknownLabel, badPair}
 use Rattle.refusal.specs.declared.Refusal.{Refusal}
-use Rattle.frame.specs.Frame.{goodFrame, frameAt, imageChecks, verdictOf}
+use Rattle.frame.specs.Frame.{goodFrame, frameAt}
 use Rattle.frame.specs.Words.{placeOf}
 use Rattle.capture.specs.Search.{goodAt}
 use Rattle.capture.specs.declared.Found.{Found}
@@ -83,12 +83,9 @@ groups-carry k g j a b c d e f = omega arith
 
 -- an image is accepted exactly if it has sixteen octets that are a good frame
 pub verdict-exactly : {image : List ℕ} {r : Refusal} → Judges image r → (r ≡ numbered 0) ↔ ((length image ≡ 16) × (goodFrame (bitAt image) ≡ true))
-unfolding verdictOf goodFrame
-verdict-exactly {image} {r} j = (
-  λ e. let p = success-exactly (imageChecks image) refl .0 (sym (judged j) ∙ e) in (eqb-true _ _ (p .0), λ i. both (p .1 .0 i) (both (p .1 .1 .0 i) (p .1 .1 .1 .0 i))),
-  λ w.
-  let p = frames.good-parts (bitAt image) (w .1) in
-  judged j ∙ success-exactly (imageChecks image) refl .1 (eq-eqb _ _ (w .0), (p .0, (p .1, (p .2, tt)))),
+verdict-exactly {image} j = (
+  λ e. let v = sym (judged j) ∙ e in (frames.verdict-size image (ap (λ (r : Refusal). r .number) v), frames.verdict-frame image v),
+  λ w. judged j ∙ frames.verdict-by image (w .0) (w .1),
 )
 
 -- ---- opening and closing

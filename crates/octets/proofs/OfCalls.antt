@@ -31,7 +31,7 @@ fed-before octets more (suc k) h =
     ap₂ (λ (s : OctetReceiver) (o : ℕ). heardOctet s o .receiver) (fed-before octets more k (omega arith)) (List·getD-append octets more 0 k h)
 
 -- what `step` answers to one octet more
-next-heard : (octets : List ℕ) (o : ℕ) {s : OctetReceiver} {h : HeardOctet}
+pub next-heard : (octets : List ℕ) (o : ℕ) {s : OctetReceiver} {h : HeardOctet}
     → s ≡ fedTo octets (length octets) → h ≡ heardOctet s o → h ≡ heardAt (octets ++ o ∷ []) (length octets)
 next-heard octets o r p =
     let new : o ≡ getD (octets ++ o ∷ []) (length octets) 0 =
