@@ -157,40 +157,40 @@ module _ (capture : List ℕ) where
     pub found-exactly : (p : ℕ) → (searchOf capture start ≡ At p) ↔ ((length capture ≤ 65536) × (start ≤ 8 * length capture) × Least capture start p)
     found-exactly p = (
       λ e.
-      by-cases
-      (λ h. let q : At p ≡ Refused (numbered badLength) = sym e ∙ too-long-told h in zero-one (cc))
-      (λ short h. let q : At p ≡ Refused (numbered outOfRange) = sym e ∙ past-end-told short h in zero-one (cc))
-      (λ short inside. (short, inside, found-least p e)),
+          by-cases
+          (λ h. let q : At p ≡ Refused (numbered badLength) = sym e ∙ too-long-told h in zero-one (cc))
+          (λ short h. let q : At p ≡ Refused (numbered outOfRange) = sym e ∙ past-end-told short h in zero-one (cc))
+          (λ short inside. (short, inside, found-least p e)),
       λ w. sym (one-there (w .0) (w .1) p (w .2)),
     )
 
     pub long-exactly : (searchOf capture start ≡ Refused (numbered badLength)) ↔ (65536 < length capture)
     long-exactly = (
       λ e.
-      by-cases (λ h. h)
-      (λ short h. absurd (omega (arith, one-number e (past-end-told short h))))
-      (λ short inside.
-      absurd (omega (arith, one-number e (none-told short inside (none-answered short inside _ e))))),
+          by-cases (λ h. h)
+          (λ short h. absurd (omega (arith, one-number e (past-end-told short h))))
+          (λ short inside.
+          absurd (omega (arith, one-number e (none-told short inside (none-answered short inside _ e))))),
       too-long-told,
     )
 
     pub past-exactly : (searchOf capture start ≡ Refused (numbered outOfRange)) ↔ ((length capture ≤ 65536) × (8 * length capture < start))
     past-exactly = (
       λ e.
-      by-cases
-      (λ h. absurd (omega (arith, one-number e (too-long-told h))))
-      (λ short h. (short, h))
-      (λ short inside.
-      absurd (omega (arith, one-number e (none-told short inside (none-answered short inside _ e))))),
+          by-cases
+          (λ h. absurd (omega (arith, one-number e (too-long-told h))))
+          (λ short h. (short, h))
+          (λ short inside.
+          absurd (omega (arith, one-number e (none-told short inside (none-answered short inside _ e))))),
       λ w. past-end-told (w .0) (w .1),
     )
 
     pub none-exactly : (searchOf capture start ≡ Refused (numbered noFrame)) ↔ ((length capture ≤ 65536) × (start ≤ 8 * length capture) × NoneFrom capture start)
     none-exactly = (
       λ e.
-      by-cases
-      (λ h. absurd (omega (arith, one-number e (too-long-told h))))
-      (λ short h. absurd (omega (arith, one-number e (past-end-told short h))))
-      (λ short inside. (short, inside, none-found e)),
+          by-cases
+          (λ h. absurd (omega (arith, one-number e (too-long-told h))))
+          (λ short h. absurd (omega (arith, one-number e (past-end-told short h))))
+          (λ short inside. (short, inside, none-found e)),
       λ w. none-told (w .0) (w .1) (w .2),
     )

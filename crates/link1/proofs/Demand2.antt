@@ -2,23 +2,22 @@
 -- and the check bits worked anew; a legal pair opens again unchanged. A search gives the first good frame's position. A shift gives the nearest step to the exact sum
 -- in feet. Over the calls' own contracts (Calls.antt), each law with its whole statement. Assumes nothing.
 use mathlib.Core.Path.{_≡_, refl, sym, ap, subst, _∙_}
-use mathlib.Core.Bool.{Bool, true, false}
+use mathlib.Core.Bool.{true, false}
 use mathlib.Core.List.{List, [], _∷_}
-use mathlib.Core.Logic.{_↔_, Iff·trans}
-use Prim.Native.Nat.{ℕ, _+_, _-_, _*_, _/_, _%_, _≤_, _<_}
+use mathlib.Core.Logic.{_↔_}
+use Prim.Native.Nat.{ℕ, _+_, _-_, _*_, _%_, _≤_, _<_}
 use native.Mathlib.Omega.{arith}
-use borrow.Author.Tests.{eqb-true, eq-eqb, ltb-true, lt-ltb, le-ltb, leb-true, le-leb}
-use lib.Dec.{leb, ltb}
+use borrow.Author.Tests.{eqb-true, eq-eqb, ltb-true, lt-ltb, leb-true, le-leb}
+use lib.Dec.{leb}
 use lib.IntN.{ℤ, pos, _+ℤ_, _*ℤ_}
 use lib.ListN.{length, getD}
 use lib.Signed.{leZ}
-use contract.Lifetimes.{Lfts}
-use Rattle.bits.specs.Tests.{both, agree, implies}
+use Rattle.bits.specs.Tests.{both}
 use Rattle.bits.specs.Numbers.{sumOf}
 use Rattle.bits.specs.Octets.{AreOctets, bitAt}
 use Rattle.bits.specs.Layout.{bit}
 use Rattle.bits.specs.declared.Trouble.the-variants.{Nothing}
-use Rattle.refusal.specs.Refusals.{numbered, badLength, outOfRange, noFrame, unknownLabel, badPair}
+use Rattle.refusal.specs.Refusals.{numbered}
 use Rattle.refusal.specs.declared.Refusal.{Refusal}
 use Rattle.frame.specs.Frame.{goodFrame, frameAt}
 use Rattle.frame.specs.Words.{placeOf}
@@ -38,18 +37,18 @@ use Rattle.kind.specs.declared.Named.the-variants as N
 use Rattle.message.specs.Messages.{kindOf}
 use Rattle.message.specs.Codec.{messageTrouble}
 use Rattle.message.specs.declared.Message.{Message}
-use Rattle.track.specs.TrackText.{isText, textNumber, textOf, textChecks, textRefusal, textAfter, trackChecks, trackRefusal, trackedOf}
+use Rattle.track.specs.TrackText.{isText, textChecks, textRefusal, trackedOf}
 use Rattle.track.specs.declared.Tracked.{Tracked}
 use Rattle.track.specs.declared.Tracked.the-variants as T
 use Rattle.pair.specs.Pairs.{isIn, pairOf}
 use Rattle.pair.specs.Opening.{isLabelled, wordKind, wordTrouble, wordMessage, firstWord, secondWord, openOf}
-use Rattle.pair.specs.Closing.{closeChecks, closeRefusal, closeImage}
+use Rattle.pair.specs.Closing.{closeChecks, closeRefusal}
 use Rattle.pair.specs.Zeroed.{zeroedImage, Clear}
 use Rattle.pair.specs.declared.Opened.{Opened}
 use Rattle.pair.specs.declared.Opened.the-variants.{Pair, Refused}
 use Rattle.shift.specs.Positions.{positionOf, isSomewhere, xOf, yOf, placedAt}
-use Rattle.relay.specs.Relay.{firstMessage, secondMessage, relayRefusal, relayImage}
-use Rattle.bits.proofs.TestLaws.{agree-is, implied, both-true, zero-one}
+use Rattle.relay.specs.Relay.{firstMessage, secondMessage, relayImage}
+use Rattle.bits.proofs.TestLaws.{both-true}
 use Rattle.refusal.proofs.CheckLaws.{success-exactly}
 use Rattle.frame.proofs.FrameLaws as frames
 use Rattle.capture.proofs.SearchLaws as search
@@ -102,8 +101,8 @@ pub opens-exactly : {image : List ℕ} {o : Opened} → Opens image o
     × (wordTrouble (secondWord image) ≡ Nothing))
 opens-exactly {image} x = (
   λ p.
-  let o = pairs.opens-exactly image .0 (pairs.opened-as (p .0) (p .1) image (sym (opened x) ∙ p .2)) in
-  (o .size, o .good, o .known-1, o .known-2, o .paired, o .fine-1, o .fine-2),
+      let o = pairs.opens-exactly image .0 (pairs.opened-as (p .0) (p .1) image (sym (opened x) ∙ p .2)) in
+      (o .size, o .good, o .known-1, o .known-2, o .paired, o .fine-1, o .fine-2),
   λ w. (
     wordMessage (firstWord image),
     wordMessage (secondWord image),

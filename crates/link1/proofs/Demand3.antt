@@ -19,7 +19,7 @@ use Rattle.frame.specs.Frame.{goodFrame}
 use Rattle.line.specs.Levels.{refused, bitsOf, decoded}
 use Rattle.line.specs.Machine.{accepted, answerOf, refusedBy, heardOf, run}
 use Rattle.line.specs.Hearing.{lastFrame, endsGood, told, toldRefused, toldOf, swap}
-use Rattle.line.specs.Sending.{sendChecks, sendRefusal, sendLevels}
+use Rattle.line.specs.Sending.{sendChecks, sendRefusal}
 use Rattle.line.specs.declared.Receiver.{Receiver}
 use Rattle.line.specs.declared.Heard.{Heard}
 use Rattle.octets.specs.Feeding.{fedTo}
@@ -94,12 +94,12 @@ pub heard-exactly : {ls : List ℕ} {s : Receiver} {l : ℕ} {h : Heard} → Fed
 unfolding endsGood
 heard-exactly {ls} {s} {l} {h} f x = (
   λ e.
-  let w = line.frame-means ls l (sym (ap (λ (x : Heard). x .frame) (as-run f x)) ∙ e) in
-  let b = both-true {a = leb 128 (length (decoded (ls ++ l ∷ [])))} {b = goodFrame (lastFrame (decoded (ls ++ l ∷ [])))} (w .1) in
-  (w .0, leb-true _ _ (b .0), b .1),
+      let w = line.frame-means ls l (sym (ap (λ (x : Heard). x .frame) (as-run f x)) ∙ e) in
+      let b = both-true {a = leb 128 (length (decoded (ls ++ l ∷ [])))} {b = goodFrame (lastFrame (decoded (ls ++ l ∷ [])))} (w .1) in
+      (w .0, leb-true _ _ (b .0), b .1),
   λ w.
-  ap (λ (x : Heard). x .frame) (demand3 f x)
-  ∙ rw (le-ltb 1 l (w .0)) (λ i. both (le-leb 128 (length (decoded (ls ++ l ∷ []))) (w .1) i) (w .2 i)),
+      ap (λ (x : Heard). x .frame) (demand3 f x)
+      ∙ rw (le-ltb 1 l (w .0)) (λ i. both (le-leb 128 (length (decoded (ls ++ l ∷ []))) (w .1) i) (w .2 i)),
 )
 
 -- and then that frame; else sixteen zero octets
@@ -157,14 +157,14 @@ pub send-exactly : {image : List ℕ} {previous : ℕ} {buffer after : List ℕ}
 unfolding sendRefusal goodFrame
 send-exactly {image} {previous} {buffer} s = (
   λ e.
-  let p = success-exactly (sendChecks image previous buffer) refl .0 (sym (sent s .0) ∙ e) in
-  let q = p .1 .1 .1 in
-  (eqb-true _ _ (p .0), eqb-true _ _ (p .1 .0), ltb-false 1 previous (not-true _ (p .1 .1 .0)), λ i. both (q .0 i) (both (q .1 .0 i) (q .1 .1 .0 i))),
+      let p = success-exactly (sendChecks image previous buffer) refl .0 (sym (sent s .0) ∙ e) in
+      let q = p .1 .1 .1 in
+      (eqb-true _ _ (p .0), eqb-true _ _ (p .1 .0), ltb-false 1 previous (not-true _ (p .1 .1 .0)), λ i. both (q .0 i) (both (q .1 .0 i) (q .1 .1 .0 i))),
   λ w.
-  let p = good-parts (bitAt image) (w .3) in
-  sent s .0
-  ∙ success-exactly (sendChecks image previous buffer) refl .1
-  (eq-eqb _ _ (w .0), (eq-eqb _ _ (w .1), (ap not (le-ltb 1 previous (w .2)), (p .0, (p .1, (p .2, tt)))))),
+      let p = good-parts (bitAt image) (w .3) in
+      sent s .0
+      ∙ success-exactly (sendChecks image previous buffer) refl .1
+      (eq-eqb _ _ (w .0), (eq-eqb _ _ (w .1), (ap not (le-ltb 1 previous (w .2)), (p .0, (p .1, (p .2, tt)))))),
 )
 
 -- what is sent, behind that level, decodes to the image's 128 bits

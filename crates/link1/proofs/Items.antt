@@ -1,7 +1,7 @@
 -- THE CHANGE REQUESTS (02, items 1 to 7): what is not already in Orders, Demand1, Demand2 and Demand3, over the calls' own contracts (Calls.antt), each law with its whole statement.
 -- Assumes nothing.
-use mathlib.Core.Path.{_≡_, refl, sym, ap, ap₂, subst, _∙_}
-use mathlib.Core.Bool.{Bool, true, false}
+use mathlib.Core.Path.{_≡_, refl, sym, ap, ap₂, _∙_}
+use mathlib.Core.Bool.{true, false}
 use mathlib.Core.List.{List, [], _∷_, _++_, List·Permᴰ}
 use mathlib.Core.Logic.{_↔_, _⊎_}
 use Prim.Native.Nat.{ℕ, _+_, _-_, _*_, _%_, _^_, _≤_, _<_}
@@ -14,7 +14,6 @@ use Rattle.bits.specs.Numbers.{tab, sumOf}
 use Rattle.bits.specs.Tests.{pick, both}
 use Rattle.bits.specs.Begins.{Begins, Misfits}
 use Rattle.bits.specs.declared.Cause.{Cause}
-use Rattle.bits.specs.declared.Cause.the-variants.{Unused, TooWide}
 use Rattle.refusal.specs.Refusals.{numbered, insideAt}
 use Rattle.refusal.specs.declared.Refusal.{Refusal}
 use Rattle.frame.specs.Frame.{goodFrame, verdictOf}
@@ -39,7 +38,7 @@ use Rattle.line.specs.declared.Heard.{Heard}
 use Rattle.octets.specs.Feeding.{endsAt, heardAt}
 use Rattle.octets.specs.declared.OctetReceiver.{OctetReceiver}
 use Rattle.octets.specs.declared.HeardOctet.{HeardOctet}
-use Rattle.pair.specs.Opening.{wordKind, firstWord, secondWord, openOf}
+use Rattle.pair.specs.Opening.{wordKind, firstWord, secondWord}
 use Rattle.pair.specs.Zeroed.{zeroedImage}
 use Rattle.pair.specs.declared.Opened.{Opened}
 use Rattle.pair.specs.declared.Opened.the-variants.{Pair, Refused}
@@ -121,8 +120,8 @@ equality {ls} {octets} {s} {t} {l} {o} {h} {g} f x u y small j level least most 
   (
     λ e. let p = by-octet e in (ap (λ (x : HeardOctet). x .frame) heard ∙ p .0, ap (λ (x : HeardOctet). x .bit) heard ∙ p .1),
     λ w.
-    ap (λ (x : Heard). x .frame) stepped-as
-    ∙ equal.heard-by-level (octets ++ o ∷ []) small ls l (length octets) j level least most same (sym (ap (λ (x : HeardOctet). x .frame) heard) ∙ w .0) (sym (ap (λ (x : HeardOctet). x .bit) heard) ∙ w .1) .0,
+        ap (λ (x : Heard). x .frame) stepped-as
+        ∙ equal.heard-by-level (octets ++ o ∷ []) small ls l (length octets) j level least most same (sym (ap (λ (x : HeardOctet). x .frame) heard) ∙ w .0) (sym (ap (λ (x : HeardOctet). x .bit) heard) ∙ w .1) .0,
   ),
   λ e. ap (λ (x : Heard). x .image) stepped-as ∙ sym (ap (λ (x : HeardOctet). x .image) heard ∙ by-octet e .2),
 )
@@ -246,9 +245,9 @@ module _ {image : List ℕ} {previous : ℕ} {buffer after : List ℕ} (x : Send
       ap (λ (t : List ℕ). goodFrame (lastFrame (decoded (changedAt k (changedAt i (previous ∷ t)))))) (sent x .1)
       ∙ two.two-wrong-levels image (passed .0) previous (passed .1) buffer (passed .2) i k order few in (
         λ good.
-        let p = both-true {a = eqb (refusalAt i) 5} {b = both (eqb (refusalAt k) 5) (eqb (i % 8) (k % 8))} (sym e ∙ good) in
-        let q = both-true {a = eqb (refusalAt k) 5} {b = eqb (i % 8) (k % 8)} (p .1) in
-        (eqb-true _ _ (p .0), eqb-true _ _ (q .0), eqb-true _ _ (q .1)),
+            let p = both-true {a = eqb (refusalAt i) 5} {b = both (eqb (refusalAt k) 5) (eqb (i % 8) (k % 8))} (sym e ∙ good) in
+            let q = both-true {a = eqb (refusalAt k) 5} {b = eqb (i % 8) (k % 8)} (p .1) in
+            (eqb-true _ _ (p .0), eqb-true _ _ (q .0), eqb-true _ _ (q .1)),
         λ w. e ∙ ap₂ both (eq-eqb _ _ (w .0)) (ap₂ both (eq-eqb _ _ (w .1)) (eq-eqb _ _ (w .2))),
       )
 

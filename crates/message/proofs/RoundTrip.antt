@@ -10,7 +10,7 @@ use borrow.Author.Tests.{eq-eqb, eqb-true, lt-ltb}
 use lib.Dec.{T, eqb, eqb→eq}
 use lib.Pow.{pow-pos}
 use lib.Pow.{split as split-pow}
-use Rattle.bits.specs.Tests.{pick, both}
+use Rattle.bits.specs.Tests.{both}
 use Rattle.bits.specs.Numbers.{numOf, fieldOf}
 use Rattle.bits.specs.Layout.{Field, pattern, widthOf, Values, split, join}
 use Rattle.bits.specs.Trouble.{isNothing, misfit, allowed, fits}
@@ -29,7 +29,7 @@ use Rattle.message.specs.declared.Iff.{Iff}
 use Rattle.message.specs.declared.Message.{Message}
 use Rattle.message.specs.declared.Message.the-variants as m
 use Rattle.kind.specs.declared.Labelled.the-variants.{Known}
-use Rattle.bits.proofs.TestLaws.{clash, zero-one, to-T, from-T, both-true, both-right}
+use Rattle.bits.proofs.TestLaws.{clash, to-T, from-T, both-true, both-right}
 use Rattle.bits.proofs.NumberLaws.{num-ext}
 use Rattle.bits.proofs.LayoutLaws.{allows, nothing-is, allowed-none, allowed-more, fits-more, fits-anywhere, join-split, fits-split, split-join, allowed-join, first-join}
 use Rattle.kind.proofs.LabelLaws.{labelled, label-from}

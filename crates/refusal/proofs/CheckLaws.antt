@@ -1,12 +1,12 @@
 -- Laws of checks in order, and of what a refusal leaves. Assumes nothing.
 use mathlib.Core.Path.{_≡_, refl, sym, ap, ap₂, _∙_}
-use mathlib.Core.Bool.{Bool, true, false, not}
+use mathlib.Core.Bool.{Bool, true, false}
 use mathlib.Core.List.{List, [], _∷_, _++_}
 use mathlib.Core.Logic.{_↔_, _⊎_, inl, inr}
 use Prim.Native.Nat.{ℕ, _≤_}
 use native.Mathlib.Omega.{arith}
-use borrow.Author.Tests.{eq-eqb, ne-eqb, eqb-true, le-leb, lt-leb}
-use lib.Dec.{eqb, leb}
+use borrow.Author.Tests.{eq-eqb, ne-eqb, eqb-true}
+use lib.Dec.{eqb}
 use Rattle.bits.specs.Tests.{pick, both, isBetween}
 use Rattle.bits.specs.declared.Cause.{Cause}
 use Rattle.bits.specs.declared.Cause.the-variants.{Pattern, Spare, Unused, TooWide}
@@ -15,7 +15,7 @@ use Rattle.bits.specs.declared.Trouble.the-variants.{Nothing, Wrong}
 use Rattle.bits.specs.Trouble.{isNothing}
 use Rattle.bits.proofs.TestLaws.{both-true, between, in-between, clash}
 use Rattle.bits.proofs.LayoutLaws.{nothing-is}
-use Rattle.refusal.specs.Refusals.{success, outOfRange, noFrame, badPattern, spareBit, unusedCode, tooWide, numbered, causeNumber, insideAt, troubled}
+use Rattle.refusal.specs.Refusals.{success, noFrame, badPattern, spareBit, unusedCode, tooWide, numbered, causeNumber, insideAt, troubled}
 use Rattle.refusal.specs.Table.{ofTable, Step, standsAt, inOrder, isTold, among}
 use Rattle.refusal.specs.Checks.{Check, test, inside, isPassed, toldBy, firstRefusal, onSuccess, answered}
 use Rattle.refusal.specs.declared.Refusal.{Refusal}

@@ -84,26 +84,26 @@ module _ (image : List ℕ) (xs ys : List ℤ) (buffer : List ℕ) where
       × Lands (secondMessage image) xs ys)
   relay-exactly = (
     λ e.
-    let o = came-open e in
-    let p = passed _ _ image o xs ys buffer e in
-    let r = p .1 .1 .1 .1 .1 in (
-      o,
-      sixteen _ _ image o xs ys buffer e,
-      leb-true _ _ (p .1 .0),
-      leb-true _ _ (p .1 .1 .0),
-      p .1 .1 .1 .0,
-      p .1 .1 .1 .1 .0,
-      lands-exactly (firstMessage image) xs ys .0 (r .0, r .1 .0),
-      lands-exactly (secondMessage image) xs ys .0 (r .1 .1 .0, r .1 .1 .1 .0),
-    ),
+        let o = came-open e in
+        let p = passed _ _ image o xs ys buffer e in
+        let r = p .1 .1 .1 .1 .1 in (
+          o,
+          sixteen _ _ image o xs ys buffer e,
+          leb-true _ _ (p .1 .0),
+          leb-true _ _ (p .1 .1 .0),
+          p .1 .1 .1 .0,
+          p .1 .1 .1 .1 .0,
+          lands-exactly (firstMessage image) xs ys .0 (r .0, r .1 .0),
+          lands-exactly (secondMessage image) xs ys .0 (r .1 .1 .0, r .1 .1 .1 .0),
+        ),
     λ w.
-    let a = lands-exactly (firstMessage image) xs ys .1 (w .6) in
-    let b = lands-exactly (secondMessage image) xs ys .1 (w .7) in
-    refusal-opened _ _ image (w .0) xs ys buffer
-    ∙ passed-success (pairChecks (firstMessage image) (secondMessage image) xs ys buffer) (
-      eq-eqb _ _ (w .1),
-      (le-leb _ _ (w .2), (le-leb _ _ (w .3), (w .4, (w .5, (a .0, (a .1, (b .0, (b .1, tt)))))))),
-    ),
+        let a = lands-exactly (firstMessage image) xs ys .1 (w .6) in
+        let b = lands-exactly (secondMessage image) xs ys .1 (w .7) in
+        refusal-opened _ _ image (w .0) xs ys buffer
+        ∙ passed-success (pairChecks (firstMessage image) (secondMessage image) xs ys buffer) (
+          eq-eqb _ _ (w .1),
+          (le-leb _ _ (w .2), (le-leb _ _ (w .3), (w .4, (w .5, (a .0, (a .1, (b .0, (b .1, tt)))))))),
+        ),
   )
 
   module _ (e : relayRefusal image xs ys buffer ≡ numbered success) where

@@ -189,8 +189,8 @@ pub reads-exactly : (t : List ℕ) → ((n : ℕ) × (trackedOf t ≡ Number n))
 unfolding trackedOf trackRefusal
 reads-exactly t = (
   λ w.
-  let q = answer-is Refused (Number (textNumber t)) (trackRefusal t) (Number (w .0)) (λ r z. zero-one (cc)) (w .1) in
-  let p = success-passed (trackChecks t) refl (q .0) in
-  (eqb-true (length t) 5 (p .0), p .1 .0),
+      let q = answer-is Refused (Number (textNumber t)) (trackRefusal t) (Number (w .0)) (λ r z. zero-one (cc)) (w .1) in
+      let p = success-passed (trackChecks t) refl (q .0) in
+      (eqb-true (length t) 5 (p .0), p .1 .0),
   λ w. (textNumber t, a-text t (w .0) (w .1)),
 )
