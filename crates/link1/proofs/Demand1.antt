@@ -144,55 +144,61 @@ relay-asks κs a = tt
 
 -- ---- calls that answer a refusal: it is of the table; a buffer that was lent is on a refusal as it was
 
+abbrev pub LeavesBuffer : Refusal → List ℕ → List ℕ → Type 0
+LeavesBuffer r buffer after = (ofTable r ≡ true) × (Refuses r → after ≡ buffer)
+
 pub verdict-refuses : {image : List ℕ} {r : Refusal} → Judges image r → ofTable r ≡ true
 unfolding verdictOf
 verdict-refuses {image} j = ap ofTable (judged j) ∙ first-of-table (imageChecks image) refl tt
 
 pub send-refuses : {image : List ℕ} {previous : ℕ} {buffer after : List ℕ} {r : Refusal} → Sends image previous buffer r after
-    → (ofTable r ≡ true) × (Refuses r → after ≡ buffer)
+    → LeavesBuffer r buffer after
 unfolding sendRefusal sendLevels
 send-refuses {image} {previous} {buffer} s =
     buffer-left (sendChecks image previous buffer) refl tt (levelsAfter previous (imageBits image)) buffer (sent s .0) (sent s .1)
 
 pub close-refuses : {first second : Message} {buffer after : List ℕ} {r : Refusal} → Closes first second buffer r after
-    → (ofTable r ≡ true) × (Refuses r → after ≡ buffer)
+    → LeavesBuffer r buffer after
 unfolding closeRefusal closeImage
 close-refuses {first} {second} {buffer} c =
     buffer-left (closeChecks first second buffer) refl (close-bits first second buffer) (imageOf (messageWord first) (messageWord second)) buffer (closed c .0) (closed c .1)
 
 pub relay-refuses : {image : List ℕ} {xs ys : List ℤ} {buffer after : List ℕ} {r : Refusal} → Relays image xs ys buffer r after
-    → (ofTable r ≡ true) × (Refuses r → after ≡ buffer)
+    → LeavesBuffer r buffer after
 unfolding relayRefusal relayImage
 relay-refuses {image} {xs} {ys} {buffer} r =
     buffer-left (relayChecks image xs ys buffer) refl (relay-bits image xs ys buffer) (imageShifted (firstMessage image) (secondMessage image) xs ys) buffer (relayed r .0) (relayed r .1)
 
 pub track-text-refuses : {number : ℕ} {buffer after : List ℕ} {r : Refusal} → Spells number buffer r after
-    → (ofTable r ≡ true) × (Refuses r → after ≡ buffer)
+    → LeavesBuffer r buffer after
 unfolding texts.textRefusal texts.textAfter
 track-text-refuses {number} {buffer} s = buffer-left (texts.textChecks number buffer) refl tt (texts.textOf number) buffer (spelled s .0) (spelled s .1)
 
 -- ---- calls that answer a value or a refusal: the refusal of the answer is of the table, and the case `Refused` is never a success
 
-pub open-refuses : {image : List ℕ} {r : Opened} → Opens image r → (ofTable (opening.refusalOf r) ≡ true) × ((x : Refusal) → r ≡ O.Refused x → Refuses x)
+abbrev pub TellsRefusal : {A : Type 0} → (A → Refusal) → (Refusal → A) → A → Type 0
+TellsRefusal refusalOf refused r = (ofTable (refusalOf r) ≡ true) × ((x : Refusal) → r ≡ refused x → Refuses x)
+
+pub open-refuses : {image : List ℕ} {r : Opened} → Opens image r → TellsRefusal opening.refusalOf O.Refused r
 unfolding opening.openOf opening.openRefusal
 open-refuses {image} o = refusal-told (opening.openChecks image) refl (open-bits image) O.Refused opening.refusalOf
     (O.Pair (opening.wordMessage (opening.firstWord image)) (opening.wordMessage (opening.secondWord image))) (λ x. refl) refl (λ x z. zero-one (cc)) (opened o)
 
-pub kind-named-refuses : {label : ℕ} {r : Named} → Names label r → (ofTable (labels.refusalOf r) ≡ true) × ((x : Refusal) → r ≡ N.Refused x → Refuses x)
+pub kind-named-refuses : {label : ℕ} {r : Named} → Names label r → TellsRefusal labels.refusalOf N.Refused r
 unfolding labels.namedOf labels.nameRefusal
 kind-named-refuses {label} n =
     refusal-told (labels.nameChecks label) refl tt N.Refused labels.refusalOf (N.Kind (labels.kindNamed (labels.kindFrom allKinds label))) (λ x. refl) refl (λ x z. zero-one (cc)) (named n)
 
-pub search-refuses : {capture : List ℕ} {start : ℕ} {r : Found} → Searches capture start r → (ofTable (searching.refusalOf r) ≡ true) × ((x : Refusal) → r ≡ F.Refused x → Refuses x)
+pub search-refuses : {capture : List ℕ} {start : ℕ} {r : Found} → Searches capture start r → TellsRefusal searching.refusalOf F.Refused r
 unfolding searching.searchOf searching.searchRefusal
 search-refuses {capture} {start} f =
     refusal-told (searching.searchChecks capture start) refl tt F.Refused searching.refusalOf (F.At (searching.leastFrom capture start)) (λ x. refl) refl (λ x z. zero-one (cc)) (searched f)
 
-pub track-number-refuses : {text : List ℕ} {r : Tracked} → Numbers text r → (ofTable (texts.refusalOf r) ≡ true) × ((x : Refusal) → r ≡ T.Refused x → Refuses x)
+pub track-number-refuses : {text : List ℕ} {r : Tracked} → Numbers text r → TellsRefusal texts.refusalOf T.Refused r
 unfolding texts.trackedOf texts.trackRefusal
 track-number-refuses {text} t = refusal-told (texts.trackChecks text) refl tt T.Refused texts.refusalOf (T.Number (texts.textNumber text)) (λ x. refl) refl (λ x z. zero-one (cc)) (numbered-as t)
 
-pub altitude-refuses : {feet : ℤ} {r : Height} → Climbs feet r → (ofTable (heights.refusalOf r) ≡ true) × ((x : Refusal) → r ≡ H.Refused x → Refuses x)
+pub altitude-refuses : {feet : ℤ} {r : Height} → Climbs feet r → TellsRefusal heights.refusalOf H.Refused r
 unfolding heights.heightOf heights.heightRefusal
 altitude-refuses {feet} h = refusal-told (heights.heightChecks feet) refl tt H.Refused heights.refusalOf (H.At (record { 0 = heights.altitudeOf feet })) (λ x. refl) refl (λ x z. zero-one (cc)) (climbed h)
 
