@@ -2,7 +2,7 @@
 use mathlib.Core.Path.{_≡_, refl, sym, ap, ap₂, _∙_}
 use mathlib.Core.Bool.{Bool, true}
 use mathlib.Core.List.{List, [], _∷_, map}
-use Prim.Native.Nat.{ℕ, zero, suc, _-_, _≤_, _<_}
+use Prim.Native.Nat.{ℕ, zero, suc, _+_, _-_, _≤_, _<_}
 use native.Mathlib.Omega.{arith}
 use native.Mathlib.Nat.{le-of-suc-le-suc, not-suc-le-zero}
 use borrow.Author.Tests.{leb-true, ltb-true, eqb-true}
@@ -11,7 +11,7 @@ use lib.ListN.{length, take, getD}
 use Rattle.bits.specs.Tests.{both}
 use Rattle.bits.specs.Layout.{Field, Values}
 use Rattle.bits.specs.Rules.{widthsOf, rulesOf, rawOf, total}
-use Rattle.kind.specs.Layouts.{allKinds, numberOf, labelOf, layoutOf}
+use Rattle.kind.specs.Layouts.{allKinds, numberOf, labelOf, Placed, bitsOf, layoutOf}
 use Rattle.kind.specs.Tables.{padded, tableOf}
 use Rattle.kind.specs.declared.Kind.{Kind}
 use Rattle.kind.specs.declared.Table.{Table}
@@ -81,6 +81,14 @@ module _ (k : Kind) where
 
   pub sound : T (areSound (layoutOf k))
   sound = to-T (parts .3)
+
+-- each field begins behind the one before, from bit 7 to bit 49: its bits are those that are said
+abbrev inRow : ℕ → List Placed → Bool
+inRow bit [] = eqb bit 50
+inRow bit (p ∷ ps) = both (eqb (p .first) bit) (both (leb (p .first) (p .last)) (inRow (p .last + 1) ps))
+
+pub fields-follow : (k : Kind) → inRow 7 (bitsOf k) ≡ true
+fields-follow = each (λ (k : Kind). inRow 7 (bitsOf k)) (λ k. true) refl
 
 -- ---- the part of a table that the code hands on
 
