@@ -70,77 +70,57 @@ use Rattle.link1.proofs.Calls.{Judges, judged, Opens, opened, Closes, c
 
 -- ---- 'each public call checks its own input': what it asks of its caller is nothing to show
 
-pub of-asks : (κs : Lfts 0) (a : _) → of.Asked κs a
-of-asks κs a = tt
-
-pub at-asks : (κs : Lfts 0) (a : _) → at.Asked κs a
-at-asks κs a = tt
-
-pub inside-asks : (κs : Lfts 0) (a : _) → inside.Asked κs a
-inside-asks κs a = tt
-
-pub verdict-asks : (κs : Lfts 1) (a : _) → verdict.Asked κs a
-verdict-asks κs a = tt
-
-pub fresh-asks : (κs : Lfts 0) (a : _) → fresh.Asked κs a
-fresh-asks κs a = tt
-
-pub step-asks : (κs : Lfts 0) (a : _) → step.Asked κs a
-step-asks κs a = tt
-
-pub send-asks : (κs : Lfts 2) (a : _) → send.Asked κs a
-send-asks κs a = tt
-
-pub fresh-octets-asks : (κs : Lfts 0) (a : _) → fresh-octets.Asked κs a
-fresh-octets-asks κs a = tt
-
-pub step-octet-asks : (κs : Lfts 0) (a : _) → step-octet.Asked κs a
-step-octet-asks κs a = tt
-
-pub search-asks : (κs : Lfts 1) (a : _) → search-call.Asked κs a
-search-asks κs a = tt
-
-pub found-refusal-asks : (κs : Lfts 0) (a : _) → found-refusal.Asked κs a
-found-refusal-asks κs a = tt
-
-pub label-asks : (κs : Lfts 0) (a : _) → label.Asked κs a
-label-asks κs a = tt
-
-pub kind-named-asks : (κs : Lfts 0) (a : _) → kind-named.Asked κs a
-kind-named-asks κs a = tt
-
-pub named-refusal-asks : (κs : Lfts 0) (a : _) → named-refusal.Asked κs a
-named-refusal-asks κs a = tt
-
-pub kind-of-asks : (κs : Lfts 0) (a : _) → kind-of.Asked κs a
-kind-of-asks κs a = tt
-
-pub track-text-asks : (κs : Lfts 1) (a : _) → track-text.Asked κs a
-track-text-asks κs a = tt
-
-pub track-number-asks : (κs : Lfts 1) (a : _) → track-number.Asked κs a
-track-number-asks κs a = tt
-
-pub tracked-refusal-asks : (κs : Lfts 0) (a : _) → tracked-refusal.Asked κs a
-tracked-refusal-asks κs a = tt
-
-pub open-asks : (κs : Lfts 1) (a : _) → open-call.Asked κs a
-open-asks κs a = tt
-
-pub opened-refusal-asks : (κs : Lfts 0) (a : _) → opened-refusal.Asked κs a
-opened-refusal-asks κs a = tt
-
-pub close-asks : (κs : Lfts 1) (a : _) → close.Asked κs a
-close-asks κs a = tt
-
-pub altitude-asks : (κs : Lfts 0) (a : _) → altitude.Asked κs a
-altitude-asks κs a = tt
-
-pub height-refusal-asks : (κs : Lfts 0) (a : _) → height-refusal.Asked κs a
-height-refusal-asks κs a = tt
-
-pub relay-asks : (κs : Lfts 4) (a : _) → relay.Asked κs a
-relay-asks κs a = tt
+pub asks-nothing :
+    ((κs : Lfts 0) (a : _) → of.Asked κs a)
+    × ((κs : Lfts 0) (a : _) → at.Asked κs a)
+    × ((κs : Lfts 0) (a : _) → inside.Asked κs a)
+    × ((κs : Lfts 1) (a : _) → verdict.Asked κs a)
+    × ((κs : Lfts 0) (a : _) → fresh.Asked κs a)
+    × ((κs : Lfts 0) (a : _) → step.Asked κs a)
+    × ((κs : Lfts 2) (a : _) → send.Asked κs a)
+    × ((κs : Lfts 0) (a : _) → fresh-octets.Asked κs a)
+    × ((κs : Lfts 0) (a : _) → step-octet.Asked κs a)
+    × ((κs : Lfts 1) (a : _) → search-call.Asked κs a)
+    × ((κs : Lfts 0) (a : _) → found-refusal.Asked κs a)
+    × ((κs : Lfts 0) (a : _) → label.Asked κs a)
+    × ((κs : Lfts 0) (a : _) → kind-named.Asked κs a)
+    × ((κs : Lfts 0) (a : _) → named-refusal.Asked κs a)
+    × ((κs : Lfts 0) (a : _) → kind-of.Asked κs a)
+    × ((κs : Lfts 1) (a : _) → track-text.Asked κs a)
+    × ((κs : Lfts 1) (a : _) → track-number.Asked κs a)
+    × ((κs : Lfts 0) (a : _) → tracked-refusal.Asked κs a)
+    × ((κs : Lfts 1) (a : _) → open-call.Asked κs a)
+    × ((κs : Lfts 0) (a : _) → opened-refusal.Asked κs a)
+    × ((κs : Lfts 1) (a : _) → close.Asked κs a)
+    × ((κs : Lfts 0) (a : _) → altitude.Asked κs a)
+    × ((κs : Lfts 0) (a : _) → height-refusal.Asked κs a)
+    × ((κs : Lfts 4) (a : _) → relay.Asked κs a)
+asks-nothing = (
+  λ κs a. tt,
+  λ κs a. tt,
+  λ κs a. tt,
+  λ κs a. tt,
+  λ κs a. tt,
+  λ κs a. tt,
+  λ κs a. tt,
+  λ κs a. tt,
+  λ κs a. tt,
+  λ κs a. tt,
+  λ κs a. tt,
+  λ κs a. tt,
+  λ κs a. tt,
+  λ κs a. tt,
+  λ κs a. tt,
+  λ κs a. tt,
+  λ κs a. tt,
+  λ κs a. tt,
+  λ κs a. tt,
+  λ κs a. tt,
+  λ κs a. tt,
+  λ κs a. tt,
+  λ κs a. tt,
+  λ κs a. tt,
+)
 
 -- ---- calls that answer a refusal: it is of the table; a buffer that was lent is on a refusal as it was
 
