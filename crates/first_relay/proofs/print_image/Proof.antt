@@ -1,0 +1,61 @@
+-- `first_relay::print_image` is safe and ends. Assumes nothing.
+use Prim.Native.Nat.{_-_, _≤_}
+use borrow.Author.Needs.{needs}
+use lib.ListN.{length}
+use Rattle.first_relay.proofs.print_image.Statement.{statement}
+use Rattle.first_relay.proofs.print_image.Tie as tie
+
+-- the index is at most the length
+abbrev Inv-loop : tie.InvT-loop
+Inv-loop image i₀ t3 i = i ≤ length image
+
+-- what is left to print falls
+abbrev μ-loop : tie.MeasureT-loop
+μ-loop image i₀ t3 i = length image - i
+
+loop-holds : tie.Need-loop-holds Inv-loop μ-loop
+loop-holds c = search needs
+
+shared-slice-read-wide : tie.Need-shared-slice-read-wide Inv-loop μ-loop
+shared-slice-read-wide c = search needs
+
+wide-requires : tie.Need-wide-requires Inv-loop μ-loop
+wide-requires c κs = search needs
+
+print-hex-requires : tie.Need-print-hex-requires Inv-loop μ-loop
+print-hex-requires c κs = search needs
+
+add-i : tie.Need-add-i Inv-loop μ-loop
+add-i c = search needs
+
+loop-less : tie.Need-loop-less Inv-loop μ-loop
+loop-less c = search needs
+
+loop-again : tie.Need-loop-again Inv-loop μ-loop
+loop-again c = search needs
+
+slice-aggregate-write-all : tie.Need-slice-aggregate-write-all Inv-loop μ-loop
+slice-aggregate-write-all c = search needs
+
+write-all-requires : tie.Need-write-all-requires Inv-loop μ-loop
+write-all-requires c κs = search needs
+
+returns : tie.Need-returns Inv-loop μ-loop
+returns c = search needs
+
+pub print-image-spec : {M : Type 1} → statement M
+print-image-spec =
+    tie.close
+    (tie.spec
+    Inv-loop
+    μ-loop
+    loop-holds
+    shared-slice-read-wide
+    wide-requires
+    print-hex-requires
+    add-i
+    loop-less
+    loop-again
+    slice-aggregate-write-all
+    write-all-requires
+    returns)
