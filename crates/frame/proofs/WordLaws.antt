@@ -9,7 +9,7 @@ use borrow.Author.Tests.{ne-eqb, le-leb, lt-leb}
 use lib.Dec.{eqb, leb, lit<, lit≤}
 use lib.ListN.{length}
 use Rattle.bits.specs.Tests.{pick}
-use Rattle.bits.specs.Numbers.{sumOf}
+use Rattle.bits.specs.Numbers.{numOf, sumOf}
 use Rattle.bits.specs.Octets.{AreOctets, bitAt, octetsOf}
 use Rattle.frame.specs.Frame.{columnOf, goodFrame}
 use Rattle.frame.specs.Words.{placeOf, wordOf, messageBit, dataBit, checkBit, groupBit, frameOf, imageOf}
@@ -91,10 +91,14 @@ module _ (a b : ℕ) where
 
 -- ---- a good frame is that of its words
 
-read-bit : (f : ℕ → ℕ) → ((n : ℕ) → f n < 2) → (k i : ℕ) → 1 ≤ i → i ≤ 49 → messageBit (wordOf f k) i ≡ f (placeOf k i)
-read-bit f bits k i h l =
+-- bit i of the word that 49 bits make
+pub word-holds : (c : ℕ → ℕ) → ((i : ℕ) → c i < 2) → (i : ℕ) → 1 ≤ i → i ≤ 49 → messageBit (numOf (λ m. c (m + 1)) 49) i ≡ c i
+word-holds c bits i h l =
     let e : i - 1 + 1 ≡ i = omega arith in
-    num-bit (λ m. f (placeOf k (m + 1))) 49 (i - 1) (λ m. bits _) (omega arith) ∙ ap (λ (m : ℕ). f (placeOf k m)) e
+    num-bit (λ m. c (m + 1)) 49 (i - 1) (λ m. bits (m + 1)) (omega arith) ∙ ap c e
+
+read-bit : (f : ℕ → ℕ) → ((n : ℕ) → f n < 2) → (k i : ℕ) → 1 ≤ i → i ≤ 49 → messageBit (wordOf f k) i ≡ f (placeOf k i)
+read-bit f bits k = word-holds (λ i. f (placeOf k i)) (λ i. bits (placeOf k i))
 
 module _ (f : ℕ → ℕ) (bits : (n : ℕ) → f n < 2) (good : goodFrame f ≡ true) where
   words-of : (k : ℕ) → 1 ≤ k → k ≤ 2 → messageOf (wordOf f 1) (wordOf f 2) k ≡ wordOf f k

@@ -416,7 +416,7 @@ closing-hold = refl
 pub zeroed-are :
     map zeroedImage (imageDigitsA ∷ imageDigitsB ∷ imageIffA ∷ imageIffB ∷ imageAB ∷ imageStrobes ∷ imageAmplifyingA ∷ imageCorners ∷ [])
     ≡ imageIffA ∷ imageIffB ∷ imageIffA ∷ imageIffB ∷ imageAB ∷ imageStrobes ∷ imageAmplifyingA ∷ imageCorners ∷ []
-unfolding numOf sumOf tab octetsOf zeroedImage
+unfolding numOf sumOf tab octetsOf imageOf zeroedImage
 zeroed-are = refl
 
 -- sending: a one changes the level (01, 'From levels to a frame'); 2 buffer, 1, 3, each told before the next

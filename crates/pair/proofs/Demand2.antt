@@ -5,10 +5,9 @@ use mathlib.Core.Path.{_≡_, refl, sym, ap, ap₂, _∙_}
 use mathlib.Core.Bool.{Bool, true, false}
 use mathlib.Core.List.{List, [], _∷_}
 use mathlib.Core.Logic.{_↔_}
-use Prim.Native.Nat.{ℕ, _≤_}
+use Prim.Native.Nat.{ℕ}
 use native.Mathlib.Omega.{arith}
 use borrow.Author.Tests.{eqb-true, eq-eqb}
-use lib.Dec.{lit≤}
 use lib.ListN.{length}
 use Rattle.bits.specs.Tests.{both}
 use Rattle.bits.specs.Octets.{AreOctets, bitAt}
@@ -28,7 +27,7 @@ use Rattle.kind.specs.declared.Labelled.the-variants.{Known, Unknown}
 use Rattle.pair.specs.Pairs.{pairOf}
 use Rattle.pair.specs.Opening.{isLabelled, wordKind, wordTrouble, wordMessage, firstWord, secondWord, openChecks, openRefusal, openOf, openWords, openContents}
 use Rattle.pair.specs.Closing.{closeChecks, closeRefusal, closeImage}
-use Rattle.pair.specs.Zeroed.{messageOf, zeroedFrame, zeroedImage, Clear}
+use Rattle.pair.specs.Zeroed.{messageOf, zeroedWord, zeroedImage, Clear}
 use Rattle.pair.specs.declared.Opened.the-variants.{Pair, Refused}
 use Rattle.bits.proofs.TestLaws.{clash, zero-one}
 use Rattle.bits.proofs.OctetLaws.{bit-lt}
@@ -36,7 +35,7 @@ use Rattle.refusal.proofs.CheckLaws.{Passed, success-passed, passed-success, gi
 use Rattle.frame.proofs.FrameLaws.{good-parts, verdict-good, verdict-image}
 use Rattle.frame.proofs.WordLaws.{image-good, length-image, image-first, image-second}
 use Rattle.message.proofs.RoundTrip.{Writes, read-written, kind-read, written-read}
-use Rattle.pair.proofs.ZeroedLaws.{zeroed-word, zeroed-frame, zeroed-once, clear-own}
+use Rattle.pair.proofs.ZeroedLaws.{zeroed-once, clear-own}
 use Rattle.pair.proofs.PairLaws.{open-good, words-by, in-table, close-good, buffer-written}
 
 -- ---- a word whose label is known and whose content is legal
@@ -70,16 +69,15 @@ module _ (first second : Message) where
     unfolding goodFrame
     good = let p = passed .1 in λ i. both (p .0 i) (both (p .1 .0 i) (p .1 .1 .0 i))
 
-    -- the message that is read from word k is written as word k of the zeroed frame
-    word-written : (k : ℕ) (m : Message) → 1 ≤ k → k ≤ 2
+    -- the message that is read from word k is written as that word, zeroed
+    word-written : (k : ℕ) (m : Message)
         → wordMessage (wordOf (bitAt image) k) ≡ m → isLabelled (wordOf (bitAt image) k) ≡ true → wordTrouble (wordOf (bitAt image) k) ≡ Nothing
-        → Writes m (wordOf (zeroedFrame (bitAt image)) k)
-    word-written k m h l is label none =
+        → Writes m (zeroedWord image k)
+    word-written k m is label none =
         let v = wordOf (bitAt image) k in
-        let p = read-written (messageOf (bitAt image) k) (λ i. bit-lt image (placeOf k i)) (wordKind v) m (known-is (labelledOf v) label) none is in
-        (p .0, p .1 ∙ zeroed-word (bitAt image) (bit-lt image) good k h l)
+        read-written (messageOf (bitAt image) k) (λ i. bit-lt image (placeOf k i)) (wordKind v) m (known-is (labelledOf v) label) none is
 
-    opened-words : Words (wordOf (zeroedFrame (bitAt image)) 1) (wordOf (zeroedFrame (bitAt image)) 2)
+    opened-words : Words (zeroedWord image 1) (zeroedWord image 2)
     opened-words =
         let p = passed .1 .1 .1 .1 in
         let e = answer .1 in
@@ -89,8 +87,8 @@ module _ (first second : Message) where
         let kind-2 : kindOf second ≡ wordKind (secondWord image) = sym (ap kindOf b) ∙ kind-read (wordKind (secondWord image)) (secondWord image) in
         record {
           paired = ap₂ pairOf kind-1 kind-2 ∙ p .1 .1 .0;
-          one = word-written 1 first (lit≤ tt) (lit≤ tt) a (p .0) (p .1 .1 .1 .0);
-          two = word-written 2 second (lit≤ tt) (lit≤ tt) b (p .1 .0) (p .1 .1 .1 .1 .0);
+          one = word-written 1 first a (p .0) (p .1 .1 .1 .0);
+          two = word-written 2 second b (p .1 .0) (p .1 .1 .1 .1 .0);
         }
 
     pub opened-closes : (buffer : List ℕ) → length buffer ≡ 16
@@ -98,11 +96,8 @@ module _ (first second : Message) where
     unfolding zeroedImage
     opened-closes buffer sixteen =
         let x = opened-words in
-        let e = close-good first second buffer sixteen (x .paired) (x .one .0) (x .two .0) in (
-          e,
-          sym (buffer-written first second buffer e) ∙ ap₂ imageOf (x .one .1) (x .two .1)
-              ∙ zeroed-frame (bitAt image) (bit-lt image) good,
-        )
+        let e = close-good first second buffer sixteen (x .paired) (x .one .0) (x .two .0) in
+        (e, sym (buffer-written first second buffer e) ∙ ap₂ imageOf (x .one .1) (x .two .1))
 
   -- ---- exactly the pairs of the table with legal content close
 
