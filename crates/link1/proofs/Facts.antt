@@ -5,7 +5,7 @@ use mathlib.Core.Bool.{true, false}
 use mathlib.Core.List.{List, [], _∷_, _++_, map}
 use Prim.Native.Nat.{ℕ, _+_, _-_, _*_, _/_, _%_, _^_}
 use lib.Dec.{eqb}
-use lib.IntN.{ℤ, pos, negsuc}
+use lib.IntN.{ℤ, pos, negsuc, negℤ}
 use lib.ListN.{replicate, take, drop, getD}
 use Rattle.bits.specs.Tests.{pick, every}
 use Rattle.bits.specs.Numbers.{numOf, sumOf, tab}
@@ -134,6 +134,10 @@ iffA n = record { mode3a = Present 1234; request = n; emergency = true; validati
 abbrev iffB : Iff
 iffB = record { mode3a = Absent; request = 2; emergency = false; validation = true; mode1 = Present 21; mode2 = Absent }
 
+-- Mode 2 alone is present
+abbrev iffC : Iff
+iffC = record { mode3a = Absent; request = 4; emergency = true; validation = false; mode1 = Absent; mode2 = Present 3001 }
+
 -- with an altitude, a strength and an X velocity
 abbrev amplifyingOf : ℕ → ℕ → ℤ → Amplifying
 amplifyingOf altitude strength vx =
@@ -220,12 +224,18 @@ imageIffA = 0 ∷ 0xc7 ∷ 0x9c ∷ 0x86 ∷ 0xce ∷ 0xcd ∷ 0xff ∷ 0xba ∷
 abbrev imageIffB : List ℕ
 imageIffB = 0 ∷ 0xd7 ∷ 0x84 ∷ 0xb9 ∷ 0xb6 ∷ 0xa0 ∷ 0x81 ∷ 0xc1 ∷ 0xe4 ∷ 0x80 ∷ 0x80 ∷ 0xc9 ∷ 0x95 ∷ 0x80 ∷ 0x80 ∷ 0xfb ∷ []
 
--- the same with digits left in the modes that are absent: Mode 1's, and those of Modes 3/A and 2
+abbrev pub imageIffC : List ℕ
+imageIffC = 0 ∷ 0xc7 ∷ 0x9c ∷ 0x86 ∷ 0xce ∷ 0xcd ∷ 0xff ∷ 0xba ∷ 0xe4 ∷ 0x80 ∷ 0x80 ∷ 0xb4 ∷ 0x80 ∷ 0x93 ∷ 0xdd ∷ 0xfb ∷ []
+
+-- the same with digits left in the modes that are absent: Mode 1's, those of Modes 3/A and 2, those of Modes 3/A and 1
 abbrev imageDigitsA : List ℕ
 imageDigitsA = 0 ∷ 0xc7 ∷ 0x9c ∷ 0x86 ∷ 0xce ∷ 0xcd ∷ 0xff ∷ 0xba ∷ 0xe4 ∷ 0x92 ∷ 0xe4 ∷ 0xb6 ∷ 0x9f ∷ 0x93 ∷ 0xdd ∷ 0x91 ∷ []
 
 abbrev imageDigitsB : List ℕ
 imageDigitsB = 0 ∷ 0xd7 ∷ 0x84 ∷ 0xb9 ∷ 0xb6 ∷ 0xa0 ∷ 0x81 ∷ 0xc1 ∷ 0xe4 ∷ 0xbf ∷ 0xfe ∷ 0xc9 ∷ 0x95 ∷ 0x9f ∷ 0xff ∷ 0xdb ∷ []
+
+abbrev pub imageDigitsC : List ℕ
+imageDigitsC = 0 ∷ 0xc7 ∷ 0x9c ∷ 0x86 ∷ 0xce ∷ 0xcd ∷ 0xff ∷ 0xba ∷ 0xe4 ∷ 0xbf ∷ 0xfe ∷ 0xb4 ∷ 0x9f ∷ 0x93 ∷ 0xdd ∷ 0xa5 ∷ []
 
 abbrev imageAmplifyingA : List ℕ
 imageAmplifyingA = 0 ∷ 0xc7 ∷ 0x9c ∷ 0x86 ∷ 0xce ∷ 0xcd ∷ 0xff ∷ 0xba ∷ 0xa4 ∷ 0xb4 ∷ 0xdc ∷ 0xe9 ∷ 0xe6 ∷ 0xfb ∷ 0xa6 ∷ 0xfb ∷ []
@@ -249,12 +259,38 @@ relayedIffB = 0 ∷ 0xd7 ∷ 0x84 ∷ 0xb9 ∷ 0xbe ∷ 0xa0 ∷ 0x9e ∷ 0xc1 �
 abbrev relayedCorners : List ℕ
 relayedCorners = 0 ∷ 0xd0 ∷ 0xca ∷ 0xb4 ∷ 0x9e ∷ 0xcd ∷ 0xdf ∷ 0xba ∷ 0xd1 ∷ 0x86 ∷ 0xd8 ∷ 0x9e ∷ 0xa0 ∷ 0x9e ∷ 0xc1 ∷ 0x89 ∷ []
 
--- an S.4 and an S.8 with every X and Y at 4095; an S.4 at 0 with the same S.8
+-- an S.4 at -4096 and -4096, the sign bits alone, and Blank; an S.4+ of zeros, and an S.5 of traffic class 3 with both velocities at -128
+abbrev imageLowest : List ℕ
+imageLowest = 0 ∷ 0xc4 ∷ 0x80 ∷ 0x80 ∷ 0x80 ∷ 0x80 ∷ 0xc0 ∷ 0x81 ∷ replicate 7 0x80 ++ 0xfb ∷ []
+
+abbrev imageSlowest : List ℕ
+imageSlowest = 0 ∷ 0xc6 ∷ replicate 6 0x80 ++ 0xa4 ∷ 0x80 ∷ 0x80 ∷ 0x83 ∷ 0x80 ∷ 0xc0 ∷ 0x81 ∷ 0xdf ∷ []
+
+abbrev slowest : Amplifying
+slowest =
+    record {
+      altitude = record { 0 = 0 };
+      strength = 0;
+      identification = 0;
+      special23 = 0;
+      simulated = false;
+      drop = false;
+      traffic = 3;
+      vx = negsuc 127;
+      allocation = 0;
+      special39 = 0;
+      vy = negsuc 127;
+    }
+
+-- an S.4 and an S.8 with every X and Y at 4095; an S.4 at 0 with the same S.8; an S.4 with Y at 4095 and an S.8 with X at 4095
 abbrev imageEdges : List ℕ
 imageEdges = 0 ∷ 0xc4 ∷ 0x80 ∷ 0x80 ∷ 0x9f ∷ 0xff ∷ 0xbf ∷ 0xfe ∷ 0xd4 ∷ 0x80 ∷ 0x80 ∷ 0x9f ∷ 0xff ∷ 0xbf ∷ 0xfe ∷ 0xef ∷ []
 
 abbrev imageEdge : List ℕ
 imageEdge = 0 ∷ 0xc4 ∷ 0x80 ∷ 0x80 ∷ 0x80 ∷ 0x80 ∷ 0x80 ∷ 0x80 ∷ 0xd4 ∷ 0x80 ∷ 0x80 ∷ 0x9f ∷ 0xff ∷ 0xbf ∷ 0xfe ∷ 0xcf ∷ []
+
+abbrev imageCross : List ℕ
+imageCross = 0 ∷ 0xc4 ∷ 0x80 ∷ 0x80 ∷ 0x80 ∷ 0x80 ∷ 0xbf ∷ 0xfe ∷ 0xd4 ∷ 0x80 ∷ 0x80 ∷ 0x9f ∷ 0xff ∷ 0x80 ∷ 0x80 ∷ 0xcf ∷ []
 
 -- an image of two messages' octets and a check group; a message that is but a label; an S.5 of strength 1; an S.6 of elevation 13;
 -- an S.9 with spare bit 20 or 9; an S.3 with spare bit 8 and request 1, and one with request 1 and spare bits 29 and 30; a Blank with bits 30 and 49
@@ -313,6 +349,10 @@ levelsT1 = digits "1111111100101100110100110010110011010011001011001101001100101
 abbrev shiftedT : List ℕ
 shiftedT = 0xe0 ∷ 0x17 ∷ replicate 13 0x57 ++ 0x5f ∷ 0xff ∷ []
 
+-- eight offsets with sum 1125
+abbrev eight : List ℤ
+eight = pos 2000 ∷ negsuc 999 ∷ pos 40 ∷ pos 70 ∷ negsuc 9 ∷ pos 3 ∷ pos 7 ∷ pos 15 ∷ []
+
 -- one offset too many
 abbrev nine : List ℤ
 nine = replicate 9 (pos 0)
@@ -332,9 +372,13 @@ fields =
     ∷ (open-image imageIffB ⇒ told 0 0 (pair (m.S8Plus trackB) (m.S3 iffB)))
     ∷ (open-image imageDigitsA ⇒ told 0 0 (pair (m.S4Plus trackA) (m.S3 (iffA 4))))
     ∷ (open-image imageDigitsB ⇒ told 0 0 (pair (m.S8Plus trackB) (m.S3 iffB)))
+    ∷ (open-image imageIffC ⇒ told 0 0 (pair (m.S4Plus trackA) (m.S3 iffC)))
+    ∷ (open-image imageDigitsC ⇒ told 0 0 (pair (m.S4Plus trackA) (m.S3 iffC)))
     ∷ (open-image imageAmplifyingA ⇒ told 0 0 (pair (m.S4Plus trackA) (m.S5 (amplifyingA 6))))
     ∷ (open-image imageAmplifyingB ⇒ told 0 0 (pair (m.S8Plus trackB) (m.S5 amplifyingB)))
     ∷ (open-image imageCorners ⇒ told 0 0 (pair (m.S9 (cornerA (negsuc 1233) (pos 3007))) (m.S9 cornerB)))
+    ∷ (open-image imageLowest ⇒ told 0 0 (pair (m.S4 (track 0 0 (negsuc 4095) (negsuc 4095))) m.Blank))
+    ∷ (open-image imageSlowest ⇒ told 0 0 (pair (m.S4Plus (track 0 0 (pos 0) (pos 0))) (m.S5 slowest)))
     ∷ []
 
 pub fields-hold : answers fields ≡ expected fields
@@ -345,6 +389,7 @@ fields-hold = refl
 abbrev pub verdicts : List Row
 verdicts =
     (verdict-of (fives 15) ⇒ told 2 0 nothing)
+    ∷ (verdict-of (imageT ++ 5 ∷ []) ⇒ told 2 0 nothing)
     ∷ (verdict-of (fives 16) ⇒ told 3 0 nothing)
     ∷ (verdict-of (0 ∷ replicate 15 0) ⇒ told 4 0 nothing)
     ∷ (verdict-of (image (label 0xc4) (label 0x80) 0xba) ⇒ told 4 0 nothing)
@@ -368,11 +413,12 @@ pub named-hold : answers named ≡ expected named
 unfolding answer nameRefusal namedOf
 named-hold = refl
 
--- opening: 6 first (labels 37 and 24), 6 second, 7, 12 to 14 first, 12 to 14 second, each told before the next; of several troubles in one message
--- the one at the lowest bit
+-- opening: 2 for seventeen octets, 6 first (labels 37 and 24), 6 second, 7, 12 to 14 first, 12 to 14 second, each told before the next; of
+-- several troubles in one message the one at the lowest bit
 abbrev pub opening : List Row
 opening =
-    (open-image (image (label 0xd2) (label 0x8c) 0xa1) ⇒ told 6 1 nothing)
+    (open-image (imageT ++ 5 ∷ []) ⇒ told 2 0 nothing)
+    ∷ (open-image (image (label 0xd2) (label 0x8c) 0xa1) ⇒ told 6 1 nothing)
     ∷ (open-image (image (label 0xc4) (label 0x8c) 0xb7) ⇒ told 6 2 nothing)
     ∷ (open-image (image strength1 strength1 0xff) ⇒ told 7 0 nothing)
     ∷ (open-image (image elevation13 elevation13 0xff) ⇒ toldBit 14 1 40 nothing)
@@ -395,6 +441,7 @@ opening-hold = refl
 abbrev pub closing : List Row
 closing =
     (close-pair far m.S0 (fives 15) ⇒ told 2 0 (buffer (fives 15)))
+    ∷ (close-pair m.S0 m.S0 (fives 17) ⇒ told 2 0 (buffer (fives 17)))
     ∷ (close-pair far m.S0 (fives 16) ⇒ told 7 0 (buffer (fives 16)))
     ∷ (close-pair far far (fives 16) ⇒ toldBit 15 1 24 (buffer (fives 16)))
     ∷ (close-pair (at (pos 0)) far (fives 16) ⇒ toldBit 15 2 24 (buffer (fives 16)))
@@ -404,6 +451,8 @@ closing =
     ∷ (close-pair (m.S4Plus trackA) (m.S5 (amplifyingOf 511 2 (negsuc 128))) (fives 16) ⇒ toldBit 15 2 29 (buffer (fives 16)))
     ∷ (close-pair (m.S4 trackA) (m.S8 trackB) (fives 16) ⇒ told 0 0 (buffer imageAB))
     ∷ (close-pair (m.S8Plus trackB) (m.S3 iffB) imageDigitsB ⇒ told 0 0 (buffer imageIffB))
+    ∷ (close-pair (m.S4Plus trackA) (m.S3 iffC) imageDigitsC ⇒ told 0 0 (buffer imageIffC))
+    ∷ (close-pair (m.S4Plus (track 0 0 (pos 0) (pos 0))) (m.S5 slowest) (fives 16) ⇒ told 0 0 (buffer imageSlowest))
     ∷ (close-pair (m.S9 (cornerA (negsuc 1233) (pos 3007))) (m.S9 cornerB) (fives 16) ⇒ told 0 0 (buffer imageCorners))
     ∷ (close-pair (m.S9 cornerB) m.Blank (fives 16) ⇒ told 7 0 (buffer (fives 16)))
     ∷ []
@@ -414,8 +463,8 @@ closing-hold = refl
 
 -- zeroed images (02, item 2): the digits left in absent modes are gone and the check octet is worked anew; the other images are their own
 pub zeroed-are :
-    map zeroedImage (imageDigitsA ∷ imageDigitsB ∷ imageIffA ∷ imageIffB ∷ imageAB ∷ imageStrobes ∷ imageAmplifyingA ∷ imageCorners ∷ [])
-    ≡ imageIffA ∷ imageIffB ∷ imageIffA ∷ imageIffB ∷ imageAB ∷ imageStrobes ∷ imageAmplifyingA ∷ imageCorners ∷ []
+    map zeroedImage (imageDigitsA ∷ imageDigitsB ∷ imageDigitsC ∷ imageIffA ∷ imageIffB ∷ imageAB ∷ imageStrobes ∷ imageAmplifyingA ∷ imageCorners ∷ [])
+    ≡ imageIffA ∷ imageIffB ∷ imageIffC ∷ imageIffA ∷ imageIffB ∷ imageAB ∷ imageStrobes ∷ imageAmplifyingA ∷ imageCorners ∷ []
 unfolding numOf sumOf tab octetsOf imageOf zeroedImage
 zeroed-are = refl
 
@@ -426,6 +475,7 @@ sending =
     ∷ (send-after 1 imageT (fives 128) ⇒ told 0 0 (buffer levelsT1))
     ∷ (send-after 2 imageT (fives 127) ⇒ told 2 0 (buffer (fives 127)))
     ∷ (send-after 2 (fives 16) (fives 128) ⇒ told 1 0 (buffer (fives 128)))
+    ∷ (send-after 255 imageT (fives 128) ⇒ told 1 0 (buffer (fives 128)))
     ∷ (send-after 1 (fives 16) (fives 128) ⇒ told 3 0 (buffer (fives 128)))
     ∷ []
 
@@ -440,6 +490,7 @@ hearing =
     ∷ (hear-after (0 ∷ take 126 levelsT0) (getD levelsT0 126 0) ⇒ told 0 0 (heard false noOctets))
     ∷ (hear-after [] 0 ⇒ told 0 0 (heard false noOctets))
     ∷ (hear-after [] 2 ⇒ told 1 0 (heard false noOctets))
+    ∷ (hear-after [] 255 ⇒ told 1 0 (heard false noOctets))
     ∷ (hear-after (1 ∷ 0 ∷ []) 1 ⇒ told 0 0 (heard false noOctets))
     ∷ []
 
@@ -516,7 +567,7 @@ pub feeding-hold : answers feeding ≡ expected feeding
 unfolding answer every sumOf goodFrame holdsFrame taken lastOf endBit fedTo
 feeding-hold = refl
 
--- searching: the first bit of a capture has position 0
+-- searching: the first bit of a capture has position 0; 65,536 octets are searched, one more is too long
 abbrev pub searching : List Row
 searching =
     (search-from 0 imageT ⇒ told 0 0 (value 0))
@@ -524,6 +575,9 @@ searching =
     ∷ (search-from 9 (0xff ∷ imageT) ⇒ told 10 0 (value 0))
     ∷ (search-from 128 imageT ⇒ told 10 0 (value 0))
     ∷ (search-from 129 imageT ⇒ told 9 0 (value 0))
+    ∷ (search-from 524289 (replicate 65536 0) ⇒ told 9 0 (value 0))
+    ∷ (search-from 524288 (replicate 65536 0) ⇒ told 10 0 (value 0))
+    ∷ (search-from 524297 (replicate 65537 0) ⇒ told 2 0 (value 0))
     ∷ []
 
 pub searching-hold : answers searching ≡ expected searching
@@ -553,6 +607,7 @@ texts-hold = refl
 abbrev pub relaying : List Row
 relaying =
     (relay-by imageAB (pos 1125 ∷ []) (negsuc 1124 ∷ []) (fives 16) ⇒ told 0 0 (buffer relayedAB))
+    ∷ (relay-by imageAB eight (map negℤ eight) (fives 16) ⇒ told 0 0 (buffer relayedAB))
     ∷ (relay-by imageAmplifyingA (pos 1125 ∷ []) (negsuc 1124 ∷ []) (fives 16) ⇒ told 0 0 (buffer relayedAmplifyingA))
     ∷ (relay-by imageDigitsB (pos 1125 ∷ []) (negsuc 1124 ∷ []) (fives 16) ⇒ told 0 0 (buffer relayedIffB))
     ∷ (relay-by imageCorners (pos 1125 ∷ []) (negsuc 1124 ∷ []) (fives 16) ⇒ told 0 0 (buffer relayedCorners))
@@ -573,12 +628,14 @@ relay-orders =
     ∷ (relay-by imageN nine nine (fives 15) ⇒ told 7 0 (buffer (fives 15)))
     ∷ (relay-by (image (label 0xd0) spare9 0xdf) nine nine (fives 15) ⇒ toldBit 13 2 9 (buffer (fives 15)))
     ∷ (relay-by imageT nine nine (fives 15) ⇒ told 2 0 (buffer (fives 15)))
+    ∷ (relay-by imageT [] [] (fives 17) ⇒ told 2 0 (buffer (fives 17)))
     ∷ (relay-by imageT nine nine (fives 16) ⇒ told 2 1 (buffer (fives 16)))
     ∷ (relay-by imageT (pos 6144001 ∷ []) nine (fives 16) ⇒ told 2 2 (buffer (fives 16)))
     ∷ (relay-by imageT (pos 6144001 ∷ []) (pos 6144001 ∷ []) (fives 16) ⇒ told 9 1 (buffer (fives 16)))
     ∷ (relay-by imageEdges (pos 375 ∷ []) (pos 6144001 ∷ []) (fives 16) ⇒ told 9 2 (buffer (fives 16)))
     ∷ (relay-by imageEdges (pos 375 ∷ []) (pos 375 ∷ []) (fives 16) ⇒ told 9 1 (buffer (fives 16)))
     ∷ (relay-by imageEdges [] (pos 375 ∷ []) (fives 16) ⇒ told 9 2 (buffer (fives 16)))
+    ∷ (relay-by imageCross (pos 375 ∷ []) (pos 375 ∷ []) (fives 16) ⇒ told 9 2 (buffer (fives 16)))
     ∷ (relay-by imageEdge (pos 375 ∷ []) (pos 375 ∷ []) (fives 16) ⇒ told 9 3 (buffer (fives 16)))
     ∷ (relay-by imageEdge [] (pos 375 ∷ []) (fives 16) ⇒ told 9 4 (buffer (fives 16)))
     ∷ (relay-by imageEdges (pos 374 ∷ []) (pos 374 ∷ []) (fives 16) ⇒ told 0 0 (buffer imageEdges))

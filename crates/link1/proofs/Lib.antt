@@ -7,5 +7,6 @@ pub mod Orders
 pub mod Asking
 pub mod Examples
 pub mod Facts
+pub mod Rows
 pub mod OneAnswer
 pub mod TwoWrongLevels

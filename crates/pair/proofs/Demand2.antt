@@ -40,7 +40,7 @@ use Rattle.pair.proofs.PairLaws.{open-good, words-by, in-table, close-g
 
 -- ---- a word whose label is known and whose content is legal
 
-known-is : (l : Labelled) → isKnown l ≡ true → l ≡ Known (kindNamed l)
+pub known-is : (l : Labelled) → isKnown l ≡ true → l ≡ Known (kindNamed l)
 known-is (Known k) e = refl
 known-is Unknown e = absurd (clash e refl)
 

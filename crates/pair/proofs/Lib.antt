@@ -5,3 +5,4 @@ pub mod ZeroedLaws
 pub mod Demand2
 pub mod FirstTrouble
 pub mod DigitsIgnored
+pub mod KindsRead

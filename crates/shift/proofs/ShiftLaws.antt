@@ -1,18 +1,25 @@
 -- What the shift's steps answer: the lists, then the first message, then the second. Assumes nothing.
 use mathlib.Core.Path.{_≡_, refl, sym, ap₂, _∙_}
-use mathlib.Core.List.{List, []}
+use mathlib.Core.Bool.{true}
+use mathlib.Core.List.{List, [], _∷_}
+use mathlib.Core.Logic.{_↔_}
+use Prim.Native.Nat.{_≤_}
+use borrow.Author.Tests.{le-leb, leb-true}
 use lib.IntN.{ℤ}
+use lib.ListN.{length}
+use Rattle.refusal.specs.Refusals.{numbered, success}
 use Rattle.refusal.specs.Checks.{firstRefusal, answered}
+use Rattle.refusal.specs.Table.{_at_, inOrder}
 use Rattle.refusal.specs.declared.Refusal.{Refusal}
-use Rattle.units.specs.Offsets.{sumZ}
+use Rattle.units.specs.Offsets.{areOffsets, sumZ}
 use Rattle.units.specs.declared.Feet.{Feet}
 use Rattle.message.specs.declared.Message.{Message}
-use Rattle.shift.specs.Shift.{shifted, shiftedBy, listChecks, resultChecks, bothChecks, pairShifted, sumsOf, bothShifted, shiftedOf}
+use Rattle.shift.specs.Shift.{shifted, shiftedBy, listChecks, resultChecks, bothChecks, shiftChecks, pairShifted, sumsOf, bothShifted, shiftedOf}
 use Rattle.shift.specs.declared.Sums.the-variants as U
 use Rattle.shift.specs.declared.Shifted.the-variants as S
 use Rattle.shift.specs.declared.ShiftedPair.the-variants as P
 use Rattle.bits.proofs.TestLaws.{zero-one}
-use Rattle.refusal.proofs.CheckLaws.{stage-refused, stage-passed}
+use Rattle.refusal.proofs.CheckLaws.{success-exactly, stage-refused, stage-passed}
 
 -- ---- the first message, and then the second
 
@@ -61,3 +68,15 @@ module _ (first second : Message) (xs ys : List ℤ) where
       let a : sumZ xs ≡ dx .0 = cc in
       let b : sumZ ys ≡ dy .0 = cc in
       sym (ap₂ (bothShifted first second) a b) ∙ p .1
+
+  -- 2 X, 2 Y, 9 on X offsets, 9 on Y offsets, 9 on the first message's X and Y, 9 on the second's
+  pub shift-order : inOrder 12 14 (shiftChecks first second xs ys) (2 at 1 ∷ 2 at 2 ∷ 9 at 1 ∷ 9 at 2 ∷ 9 at 1 ∷ 9 at 2 ∷ 9 at 3 ∷ 9 at 4 ∷ []) ≡ true
+  shift-order = refl
+
+  -- the lists are taken exactly if each has at most eight offsets, and every offset is in range
+  pub lists-exactly :
+      (firstRefusal (listChecks xs ys) ≡ numbered success) ↔ ((length xs ≤ 8) × (length ys ≤ 8) × (areOffsets xs ≡ true) × (areOffsets ys ≡ true))
+  lists-exactly = (
+    λ e. let p = success-exactly (listChecks xs ys) refl .0 e in (leb-true _ _ (p .0), leb-true _ _ (p .1 .0), p .1 .1 .0, p .1 .1 .1 .0),
+    λ w. success-exactly (listChecks xs ys) refl .1 (le-leb _ _ (w .0), (le-leb _ _ (w .1), (w .2, (w .3, tt)))),
+  )
