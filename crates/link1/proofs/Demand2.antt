@@ -55,6 +55,7 @@ use Rattle.capture.proofs.SearchLaws as search
 use Rattle.units.proofs.Nearest as nearest
 use Rattle.kind.proofs.LabelLaws as labels
 use Rattle.track.proofs.TextLaws as texts
+use Rattle.pair.proofs.KindsRead as kinds
 use Rattle.pair.proofs.PairRules as rules
 use Rattle.pair.proofs.Demand2 as pairs
 use Rattle.pair.proofs.ZeroedLaws as zeroed
@@ -88,6 +89,13 @@ verdict-exactly {image} j = (
 )
 
 -- ---- opening and closing
+
+-- the label is bits 1 to 6 of a word: it is known exactly if it is a kind's, and names that kind, whatever stands above it
+pub label-known : (word : ℕ) → (isLabelled word ≡ true) ↔ ((k : Kind) × (word % 64 ≡ labelOf k))
+label-known = kinds.labelled-exactly
+
+pub label-names : (word : ℕ) (k : Kind) → word % 64 ≡ labelOf k → wordKind word ≡ k
+label-names = kinds.kind-exactly
 
 -- an image opens exactly if it is a good frame, both labels are known, the pair is in the table and nothing is wrong inside
 pub opens-exactly : {image : List ℕ} {o : Opened} → Opens image o

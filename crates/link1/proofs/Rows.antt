@@ -30,6 +30,7 @@ use Rattle.units.specs.Nearest.{dist, Nearest, OddMultiple}
 use Rattle.message.specs.Codec.{contentTrouble, messageWord}
 use Rattle.message.specs.declared.Message.{Message}
 use Rattle.message.specs.declared.Message.the-variants as m
+use Rattle.frame.specs.Words.{imageOf}
 use Rattle.pair.specs.Zeroed.{zeroedImage, Clear}
 use Rattle.bits.proofs.TestLaws.{clash}
 use Rattle.units.proofs.Nearest.{near-nearest, nearest-is}
@@ -300,7 +301,7 @@ something-first f = f Spare 8 spare-begins
 -- ---- digits left in absent modes (02, item 2)
 
 pub no-digit-left : Clear imageIffC
-unfolding numOf sumOf tab octetsOf zeroedImage
+unfolding numOf sumOf tab octetsOf imageOf zeroedImage
 no-digit-left = own-clear imageIffC refl
 
 pub digits-left : Clear imageDigitsC → ⊥
