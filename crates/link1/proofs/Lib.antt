@@ -6,7 +6,11 @@ pub mod Calls
 pub mod Orders
 pub mod Asking
 pub mod Examples
-pub mod Facts
+pub mod FactLayouts
+pub mod FactValues
+pub mod FactMessages
+pub mod FactLine
+pub mod FactRelay
 pub mod Rows
 pub mod OneAnswer
 pub mod TwoWrongLevels

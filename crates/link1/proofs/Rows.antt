@@ -37,7 +37,7 @@ use Rattle.units.proofs.Nearest.{near-nearest, nearest-is}
 use Rattle.message.proofs.FirstTrouble.{content-first}
 use Rattle.pair.proofs.ZeroedLaws.{own-clear}
 use Rattle.link1.proofs.Asking.{altitude-of, nothing, value, told, answer, Row, _⇒_, answers, expected, track}
-use Rattle.link1.proofs.Facts.{imageIffC, imageDigitsC}
+use Rattle.link1.proofs.FactValues.{imageIffC, imageDigitsC}
 use Rattle.link1.proofs.Demand2.{InRange, Shifts}
 
 -- ---- altitudes (01, 'Messages'): 1 from 375 feet down, also at and below the sea, and never 0
