@@ -1,4 +1,5 @@
--- What `trouble` and `misfit` tell is the first trouble, for any layout: none begins at a lower bit. It lies in the layout. Assumes nothing.
+-- What `trouble` and `misfit` tell is the first trouble, for any layout: none begins at a lower bit. It lies in the layout. Assumes
+-- nothing.
 use mathlib.Core.Path.{_≡_, refl, sym, ap, ap₂, subst, _∙_}
 use mathlib.Core.Bool.{Bool, true, false}
 use mathlib.Core.List.{List, [], _∷_}

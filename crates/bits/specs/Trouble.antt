@@ -1,5 +1,6 @@
--- What is first wrong with a word, or with values, under any layout (02, item 4): 'the cause and the lowest bit number where the trouble begins;
--- for a field that is its lowest bit. If there are several, the lowest bit wins.' Bits are counted from 1: the bit of weight 2 ^ n is bit n + 1.
+-- What is first wrong with a word, or with values, under any layout (02, item 4): 'the cause and the lowest bit number where the trouble
+-- begins; for a field that is its lowest bit. If there are several, the lowest bit wins.' Bits are counted from 1: the bit of weight 2 ^ n
+-- is bit n + 1.
 use mathlib.Core.Bool.{Bool, true, false, not}
 use mathlib.Core.List.{List, [], _∷_}
 use Prim.Native.Nat.{ℕ, zero, suc, _+_, _/_, _%_, _^_}
@@ -37,8 +38,8 @@ abbrev pub noneOf : List ℕ → ℕ → Bool
 noneOf [] n = true
 noneOf (x ∷ xs) n = both (not (eqb x n)) (noneOf xs n)
 
--- what is wrong with the bits n, which are below 2 ^ widthOf f: of a pattern or of spare bits the lowest wrong bit is told, of a code that is
--- not used the field's lowest bit
+-- what is wrong with the bits n, which are below 2 ^ widthOf f: of a pattern or of spare bits the lowest wrong bit is told, of a code that
+-- is not used the field's lowest bit
 abbrev pub troubleIn : ℕ → Field → ℕ → Trouble
 troubleIn at (pattern k x) n = differing Pattern at k n x
 troubleIn at (spare k) n = differing Spare at k n 0

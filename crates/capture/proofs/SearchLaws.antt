@@ -12,7 +12,7 @@ use Rattle.bits.specs.Tests.{pick}
 use Rattle.refusal.specs.Refusals.{success, badLength, outOfRange, noFrame, numbered}
 use Rattle.refusal.specs.Checks.{check, firstRefusal, answered}
 use Rattle.refusal.specs.declared.Refusal.{Refusal}
-use Rattle.capture.specs.Search.{goodAt, NoneIn, Least, NoneFrom, firstGood, leastFrom, searchChecks, searchRefusal, searchOf, refusalOf}
+use Rattle.capture.specs.Search.{goodAt, NoneIn, Least, NoneFrom, firstGood, leastFrom, searchChecks, searchRefusal, searchOf, refusalInFound}
 use Rattle.capture.specs.declared.Found.{Found}
 use Rattle.capture.specs.declared.Found.the-variants.{At, Refused}
 use Rattle.bits.proofs.TestLaws.{by-lt, clash, zero-one}
@@ -146,7 +146,7 @@ module _ (capture : List ℕ) where
     none-told short inside none = told (none-there short inside none) (λ z. omega arith)
 
     one-number : {a b : ℕ} → searchOf capture start ≡ Refused (numbered a) → searchOf capture start ≡ Refused (numbered b) → a ≡ b
-    one-number e f = ap (λ (x : Found). refusalOf x .number) (sym e ∙ f)
+    one-number e f = ap (λ (x : Found). refusalInFound x .number) (sym e ∙ f)
 
     -- by the length and the start
     module _ {P : Type 0} (long : 65536 < length capture → P) (past : length capture ≤ 65536 → 8 * length capture < start → P)

@@ -14,7 +14,7 @@ use Rattle.bits.specs.Tests.{every}
 use Rattle.bits.specs.Octets.{bitAt}
 use Rattle.frame.specs.Frame.{goodFrame, frameAt}
 use Rattle.capture.specs.Search.{goodAt, NoneIn, NoneFrom}
-use Rattle.capture.specs.Sieve.{Passed}
+use Rattle.capture.specs.Sieve.{PassedOver}
 use Rattle.bits.proofs.TestLaws.{by-lt, both-true, clash, never-true, rule-at}
 use Rattle.bits.proofs.NumberLaws.{num-ext, num-of, num-zero, shl-low}
 use Rattle.bits.proofs.OctetLaws.{bit-in}
@@ -53,11 +53,11 @@ none-end s a p none h q l =
 
 -- ---- an octet whose last bit is one
 
-pub pass-none : (s : List ℕ) (i : ℕ) → i ≤ length s → Passed s i i
+pub pass-none : (s : List ℕ) (i : ℕ) → i ≤ length s → PassedOver s i i
 pass-none s i h = record { from = omega arith; to = h; none = λ p a b. absurd (omega arith) }
 
 -- the start group of a frame covers the last bit of the octet that it begins in
-pub idle-more : (s : List ℕ) (i o : ℕ) → Passed s i o → o < length s → (getD s o 0 % 2 ≡ 0 → ⊥) → Passed s i (o + 1)
+pub idle-more : (s : List ℕ) (i o : ℕ) → PassedOver s i o → o < length s → (getD s o 0 % 2 ≡ 0 → ⊥) → PassedOver s i (o + 1)
 idle-more s i o idle h odd =
     record {
       from = omega (arith, idle .from);
@@ -118,7 +118,7 @@ sift-more s i ones n sf more =
         clash e (sf .passed p a (omega arith) (sym (and-one ones (getD s (i + (n - 1)) 0) (7 - p % 8) one) ∙ z))
 
 -- an AND that is zero: no frame begins in any of these octets
-pub sift-none : (s : List ℕ) (i ones from : ℕ) → Sifted s i ones from → ones ≡ 0 → i + 16 ≤ length s → Passed s i (i + from)
+pub sift-none : (s : List ℕ) (i ones from : ℕ) → Sifted s i ones from → ones ≡ 0 → i + 16 ≤ length s → PassedOver s i (i + from)
 sift-none s i ones from sf e h =
     record {
       from = omega arith;

@@ -53,9 +53,9 @@ unfoldable pub searchOf : List ℕ → ℕ → Found
 searchOf capture start = answered Refused (searchRefusal capture start) (At (leastFrom capture start))
 
 -- 01's number and place of each case, and the position: 0 where there is none
-abbrev pub refusalOf : Found → Refusal
-refusalOf (At p) = numbered success
-refusalOf (Refused r) = r
+abbrev pub refusalInFound : Found → Refusal
+refusalInFound (At p) = numbered success
+refusalInFound (Refused r) = r
 
 abbrev pub positionFound : Found → ℕ
 positionFound (At p) = p

@@ -7,7 +7,7 @@ use lib.ListN.{length}
 use Rattle.capture.specs.Search.{goodAt, NoneIn}
 
 -- octets i to r - 1 hold the first bit of no good frame
-pub record Passed (capture : List ℕ) (i r : ℕ) : Type 0 where
+pub record PassedOver (capture : List ℕ) (i r : ℕ) : Type 0 where
   pub from : i ≤ r
   pub to : r ≤ length capture
   pub none : NoneIn capture (8 * i) (8 * r)

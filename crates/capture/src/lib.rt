@@ -3,9 +3,9 @@
 ghost use mathlib.Core.Path.{_≡_};
 ghost use Prim.Native.Nat.{_+_, _*_, _≤_, _<_, min};
 ghost use lib.ListN.{length};
-ghost use Rattle.frame.specs.Frame.{Lies};
-ghost use Rattle.capture.specs.Search.{refusalOf, goodAt, searchOf};
-ghost use Rattle.capture.specs.Sieve.{Passed, Looked};
+ghost use Rattle.frame.specs.Frame.{LiesWhole};
+ghost use Rattle.capture.specs.Search.{refusalInFound, goodAt, searchOf};
+ghost use Rattle.capture.specs.Sieve.{PassedOver, Looked};
 use refusal::Refusal;
 
 // What a search answers: the position of the first good frame, or the refusal.
@@ -17,7 +17,7 @@ pub enum Found {
 impl Found {
     // The answer as a number, a place and a bit.
     pub fn refusal(self) -> Refusal
-        ensures { λ r. ⌜ r ≡ refusalOf self ⌝ }
+        ensures { λ r. ⌜ r ≡ refusalInFound self ⌝ }
     {
         match self {
             Found::At(_) => Refusal::of(refusal::SUCCESS),
@@ -30,7 +30,7 @@ impl Found {
 // cover the last bit of the octet that they begin in, so an idle line is passed at one test an octet.
 fn pass_idle(capture: &[u8], i: usize) -> usize
     requires { ⌜ i ≤ length (now capture) ⌝ }
-    ensures { λ r. ⌜ Passed (now (capture .entry)) i r ⌝ }
+    ensures { λ r. ⌜ PassedOver (now (capture .entry)) i r ⌝ }
 {
     let mut o = i;
     while o < capture.len() {
@@ -46,7 +46,7 @@ fn pass_idle(capture: &[u8], i: usize) -> usize
 // after it, all in one place of theirs: where the AND of the last eight becomes zero, no frame begins up to there.
 fn pass_unmarked(capture: &[u8], i: usize) -> usize
     requires { ⌜ i + 16 ≤ length (now capture) ⌝ }
-    ensures { λ r. ⌜ Passed (now (capture .entry)) i r ⌝ }
+    ensures { λ r. ⌜ PassedOver (now (capture .entry)) i r ⌝ }
 {
     let mut ones: u8 = 255;
     let mut from = 16;
@@ -62,7 +62,7 @@ fn pass_unmarked(capture: &[u8], i: usize) -> usize
 
 // Whether a good frame lies whole at position q.
 fn is_frame(capture: &[u8], q: usize) -> bool
-    requires { ⌜ Lies (now capture) 0 ⌝ }
+    requires { ⌜ LiesWhole (now capture) 0 ⌝ }
     ensures { λ r. ⌜ r ≡ goodAt (now (capture .entry)) q ⌝ }
 {
     if 8 * capture.len() - 128 < q {
@@ -80,7 +80,7 @@ struct Seen {
 // Looks from position p to the end of its octet. A frame that begins there has its first mark where the next octet has its first
 // one, so there is one position to try, and before it is judged its octet must end in the zeros of a start group.
 fn look_in_octet(capture: &[u8], p: usize) -> Seen
-    requires { ⌜ Lies (now capture) p ⌝ }
+    requires { ⌜ LiesWhole (now capture) p ⌝ }
     ensures { λ r. ⌜ Looked (now (capture .entry)) p (r .frame) (r .at) ⌝ }
 {
     let i = p / 8;
@@ -133,7 +133,7 @@ fn least(a: usize, b: usize) -> usize
 // Looks on from position p: past an idle stretch, past octets that lack a mark, or at the next eight octets. So an octet costs a
 // few tests, whatever it holds, and only a start group with its first mark costs a verdict.
 fn look(capture: &[u8], p: usize) -> Seen
-    requires { ⌜ Lies (now capture) p ⌝ }
+    requires { ⌜ LiesWhole (now capture) p ⌝ }
     ensures { λ r. ⌜ Looked (now (capture .entry)) p (r .frame) (r .at) ⌝ }
 {
     let i = p / 8;

@@ -1,4 +1,5 @@
--- A group's seven bits in its octet and in the word, and the octets that the code stores, which are the image of the two words. Assumes nothing.
+-- A group's seven bits in its octet and in the word, and the octets that the code stores, which are the image of the two words. Assumes
+-- nothing.
 use mathlib.Core.Path.{_≡_, refl, sym, ap, ap₂, _∙_}
 use mathlib.Core.Bool.{Bool, true, false}
 use mathlib.Core.List.{List}
@@ -15,28 +16,28 @@ use Rattle.bits.specs.Numbers.{numOf, sumOf, tab, written, fieldOf}
 use Rattle.bits.specs.Octets.{bitAt, octetOf, octetsOf}
 use Rattle.frame.specs.Frame.{columnOf}
 use Rattle.frame.specs.Words.{placeOf, dataBit, checkBit, frameOf, imageOf}
-use Rattle.frame.specs.Packing.{dataGroup, turnedOf, dataOctet, messageStored, checkOctet}
+use Rattle.frame.specs.Packing.{dataGroup, mirroredOf, dataOctet, messageStored, checkOctet}
 use Rattle.bits.proofs.NumberLaws.{low-bit, num-append, num-ext, num-lt, sum-ext, sum-more, as-tab, getD-tab}
 use Rattle.bits.proofs.OctetLaws.{bit-in, bit-octets}
 use Rattle.frame.proofs.WordLaws.{frame-lt, column-data}
 
 -- ---- one group
 
--- a mark is not among the seven bits that are turned
-turned-low : (x : ℕ) → turnedOf (x % 2 ^ 7) ≡ turnedOf x
-turned-low x = num-ext _ _ 7 (λ i h. low-bit x 7 (6 - i) (omega arith))
+-- a mark is not among the seven bits that are mirrored
+mirrored-low : (x : ℕ) → mirroredOf (x % 2 ^ 7) ≡ mirroredOf x
+mirrored-low x = num-ext _ _ 7 (λ i h. low-bit x 7 (6 - i) (omega arith))
 
-turned-lt : (x : ℕ) → turnedOf x < 2 ^ 7
-turned-lt x = num-lt _ 7 (λ i h. mod-lt _ (lit< tt))
+mirrored-lt : (x : ℕ) → mirroredOf x < 2 ^ 7
+mirrored-lt x = num-lt _ 7 (λ i h. mod-lt _ (lit< tt))
 
--- ---- what the table gives: t is what `turning` hands out
+-- ---- what the table gives: t is what `mirroring` hands out
 
-module _ (t : List ℕ) (turning : t ≡ tab turnedOf 128) where
-  table-at : (x : ℕ) → x < 128 → getD t x 0 ≡ turnedOf x
-  table-at x h = ap (λ (l : List ℕ). getD l x 0) turning ∙ getD-tab turnedOf 128 x h
+module _ (t : List ℕ) (mirroring : t ≡ tab mirroredOf 128) where
+  table-at : (x : ℕ) → x < 128 → getD t x 0 ≡ mirroredOf x
+  table-at x h = ap (λ (l : List ℕ). getD l x 0) mirroring ∙ getD-tab mirroredOf 128 x h
 
   table-lt : (x : ℕ) → x < 128 → getD t x 0 < 2 ^ 7
-  table-lt x h = rw (table-at x h) (turned-lt x)
+  table-lt x h = rw (table-at x h) (mirrored-lt x)
 
   pub seven-lt : (octet : ℕ) → getD t (bitAnd octet 127) 0 < 2 ^ 7
   seven-lt octet = table-lt (bitAnd octet 127) (mask-lt octet 7)
@@ -45,7 +46,7 @@ module _ (t : List ℕ) (turning : t ≡ tab turnedOf 128) where
   pub group-read : (s : List ℕ) (k g n : ℕ) → n ≡ dataGroup k g → 1 ≤ g
       → getD t (bitAnd (getD s n 0) 127) 0 ≡ numOf (λ i. bitAt s (placeOf k (7 * (g - 1) + i + 1))) 7
   group-read s k g n e h =
-      table-at (bitAnd (getD s n 0) 127) (mask-lt (getD s n 0) 7) ∙ ap turnedOf (and-mask (getD s n 0) 7) ∙ turned-low (getD s n 0)
+      table-at (bitAnd (getD s n 0) 127) (mask-lt (getD s n 0) 7) ∙ ap mirroredOf (and-mask (getD s n 0) 7) ∙ mirrored-low (getD s n 0)
       ∙ num-ext _ _ 7
       (λ i p.
       let weight : 6 - i ≡ 7 - (i + 1) = omega arith in
@@ -59,7 +60,7 @@ module _ (t : List ℕ) (turning : t ≡ tab turnedOf 128) where
       let small : seven < 128 = rw e (mod-lt _ (lit< tt)) in
       or-shifted 1 7 (getD t seven 0) (table-lt seven small)
       ∙ ap (λ (x : ℕ). 128 + x)
-      (table-at seven small ∙ ap turnedOf e ∙ turned-low (word / 2 ^ low)
+      (table-at seven small ∙ ap mirroredOf e ∙ mirrored-low (word / 2 ^ low)
       ∙ num-ext _ _ 7
       (λ i h.
       let weight : low + (6 - i) ≡ low + (7 - i) - 1 = omega arith in

@@ -51,5 +51,5 @@ abbrev pub frameAt : List ℕ → ℕ → ℕ → ℕ
 frameAt octets p n = bitAt octets (p + n)
 
 -- such a frame lies whole in the octets, of which a capture has at most 65,536
-abbrev pub Lies : List ℕ → ℕ → Type 0
-Lies octets p = (p + 128 ≤ 8 * length octets) × (length octets ≤ 65536)
+abbrev pub LiesWhole : List ℕ → ℕ → Type 0
+LiesWhole octets p = (p + 128 ≤ 8 * length octets) × (length octets ≤ 65536)

@@ -1,4 +1,5 @@
--- What the code makes step by step, group by group and octet by octet (001, Annex A, Appendix 3, paragraphs 1 to 3); Words.antt says what it is for.
+-- What the code makes step by step, group by group and octet by octet (001, Annex A, Appendix 3, paragraphs 1 to 3); Words.antt says what
+-- it is for.
 use mathlib.Core.List.{List}
 use Prim.Native.Nat.{ℕ, _+_, _-_, _*_, _/_, _%_, _^_}
 use Rattle.bits.specs.Numbers.{numOf, written}
@@ -11,8 +12,8 @@ abbrev pub dataGroup : ℕ → ℕ → ℕ
 dataGroup k g = 7 * (k - 1) + g
 
 -- the seven low bits of a number the other way round
-abbrev pub turnedOf : ℕ → ℕ
-turnedOf n = numOf (λ i. n / 2 ^ (6 - i) % 2) 7
+abbrev pub mirroredOf : ℕ → ℕ
+mirroredOf n = numOf (λ i. n / 2 ^ (6 - i) % 2) 7
 
 -- the octet of a message's group g: the mark, and the group's seven bits
 abbrev pub dataOctet : ℕ → ℕ → ℕ

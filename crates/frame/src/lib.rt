@@ -7,14 +7,14 @@ ghost use lib.Count.{leadingZeros};
 ghost use lib.ListN.{length};
 ghost use Rattle.bits.specs.Numbers.{numOf, tab};
 ghost use Rattle.bits.specs.Octets.{bitAt};
-ghost use Rattle.frame.specs.Frame.{startGood, marksGood, checksGood, frameVerdict, verdictOf, frameAt, Lies};
+ghost use Rattle.frame.specs.Frame.{startGood, marksGood, checksGood, frameVerdict, verdictOf, frameAt, LiesWhole};
 ghost use Rattle.frame.specs.Words.{wordOf, imageOf};
-ghost use Rattle.frame.specs.Packing.{dataGroup, turnedOf, messageStored, checkOctet};
+ghost use Rattle.frame.specs.Packing.{dataGroup, mirroredOf, messageStored, checkOctet};
 use refusal::Refusal;
 
 // The start group of the frame at a position: eight zeros.
 fn is_started(octets: &[u8], position: usize) -> bool
-    requires { ⌜ Lies (now octets) position ⌝ }
+    requires { ⌜ LiesWhole (now octets) position ⌝ }
     ensures { λ r. ⌜ r ≡ startGood (frameAt (now (octets .entry)) position) ⌝ }
 {
     let mut i = 0;
@@ -29,7 +29,7 @@ fn is_started(octets: &[u8], position: usize) -> bool
 
 // The fifteen marks and the final one.
 fn is_marked(octets: &[u8], position: usize) -> bool
-    requires { ⌜ Lies (now octets) position ⌝ }
+    requires { ⌜ LiesWhole (now octets) position ⌝ }
     ensures { λ r. ⌜ r ≡ marksGood (frameAt (now (octets .entry)) position) ⌝ }
 {
     let mut g = 0;
@@ -44,7 +44,7 @@ fn is_marked(octets: &[u8], position: usize) -> bool
 
 // Bit j of the fourteen data groups and check bit j, gathered as a number of fifteen bits.
 fn column(octets: &[u8], position: usize, j: usize) -> u32
-    requires { ⌜ Lies (now octets) position × (1 ≤ j) × (j ≤ 6) ⌝ }
+    requires { ⌜ LiesWhole (now octets) position × (1 ≤ j) × (j ≤ 6) ⌝ }
     ensures { λ r. ⌜ r ≡ numOf (λ g. frameAt (now (octets .entry)) position (8 * g + 9 + j)) 15 ⌝ }
 {
     let mut gathered: u32 = 0;
@@ -58,7 +58,7 @@ fn column(octets: &[u8], position: usize, j: usize) -> u32
 
 // Each of the six check bits makes the ones of its column odd.
 fn is_checked(octets: &[u8], position: usize) -> bool
-    requires { ⌜ Lies (now octets) position ⌝ }
+    requires { ⌜ LiesWhole (now octets) position ⌝ }
     ensures { λ r. ⌜ r ≡ checksGood (frameAt (now (octets .entry)) position) ⌝ }
 {
     let mut i = 0;
@@ -73,7 +73,7 @@ fn is_checked(octets: &[u8], position: usize) -> bool
 
 // What is wrong first with the frame at a position, or success. The check bits are counted last.
 pub fn verdict_at(octets: &[u8], position: usize) -> Refusal
-    requires { ⌜ Lies (now octets) position ⌝ }
+    requires { ⌜ LiesWhole (now octets) position ⌝ }
     ensures { λ r. ⌜ r ≡ frameVerdict (frameAt (now (octets .entry)) position) ⌝ }
 {
     if !is_started(octets, position) {
@@ -122,7 +122,7 @@ fn data_group(k: usize, group: usize) -> usize
 
 // Seven bits the other way round: bit 1 of a group comes first in its octet, where it weighs most, and weighs least in the word.
 // The octet C4, which is 44 without its mark, gives 11: label 17.
-const TURNED: [u8; 128] = *b"\
+const MIRRORED: [u8; 128] = *b"\
     \x00\x40\x20\x60\x10\x50\x30\x70\x08\x48\x28\x68\x18\x58\x38\x78\
     \x04\x44\x24\x64\x14\x54\x34\x74\x0c\x4c\x2c\x6c\x1c\x5c\x3c\x7c\
     \x02\x42\x22\x62\x12\x52\x32\x72\x0a\x4a\x2a\x6a\x1a\x5a\x3a\x7a\
@@ -133,10 +133,10 @@ const TURNED: [u8; 128] = *b"\
     \x07\x47\x27\x67\x17\x57\x37\x77\x0f\x4f\x2f\x6f\x1f\x5f\x3f\x7f";
 
 // The table, once for a whole message: a constant is copied where it is used.
-fn turning() -> [u8; 128]
-    ensures { λ r. ⌜ r ≡ tab turnedOf 128 ⌝ }
+fn mirroring() -> [u8; 128]
+    ensures { λ r. ⌜ r ≡ tab mirroredOf 128 ⌝ }
 {
-    TURNED
+    MIRRORED
 }
 
 // The word of message k, group by group: the seven bits of each octet, without the mark, go to their place.
@@ -144,12 +144,12 @@ pub fn word(image: &[u8], k: usize) -> u64
     requires { ⌜ (1 ≤ k) × (k ≤ 2) × (length (now image) ≡ 16) ⌝ }
     ensures { λ r. ⌜ r ≡ wordOf (bitAt (now (image .entry))) k ⌝ }
 {
-    let turned = turning();
+    let mirrored = mirroring();
     let mut gathered: u64 = 0;
     let mut group: usize = 1;
     while group <= GROUPS {
         let octet = image[data_group(k, group)];
-        let seven = turned[(octet & 127) as usize];
+        let seven = mirrored[(octet & 127) as usize];
         gathered = bits::place(gathered, BITS * (group as u32 - 1), BITS, seven as u64);
         group += 1;
     }
@@ -161,11 +161,11 @@ fn put_message(image: &mut [u8], k: usize, word: u64)
     requires { ⌜ (1 ≤ k) × (k ≤ 2) × (length (now image) ≡ 16) ⌝ }
     ensures { λ r. ⌜ (now (image .exit) ≡ messageStored (now (image .entry)) k word) × (length (now (image .exit)) ≡ 16) ⌝ }
 {
-    let turned = turning();
+    let mirrored = mirroring();
     let mut group: usize = 1;
     while group <= GROUPS {
         let seven = bits::field(word, BITS * (group as u32 - 1), BITS);
-        let octet = 128 | turned[seven as usize];
+        let octet = 128 | mirrored[seven as usize];
         image[data_group(k, group)] = octet;
         group += 1;
     }

@@ -10,7 +10,7 @@ use Rattle.frame.specs.Frame.{goodFrame}
 use Rattle.capture.specs.Search.{goodAt}
 use Rattle.link1.proofs.Examples.{imageT, imageN}
 use Rattle.text.specs.Text.{octets, decBy, dec, decThen, row}
-use Rattle.hearing.specs.Ends.{endsWith, endsTo}
+use Rattle.hearing.specs.Ends.{endsAfter, endsTo}
 use Rattle.hearing.specs.Hearing.{linesOf, hearingOf}
 
 -- a capture, and what is written of it
@@ -18,7 +18,8 @@ pub record Example : Type 0 where
   pub capture : List ℕ
   pub text : String
 
--- no octet; T; T without its last octet, and without its first; an octet of ones, T and N, which is a good frame though no pair of the table
+-- no octet; T; T without its last octet, and without its first; an octet of ones, T and N, which is a good frame though no pair of the
+-- table
 abbrev pub examples : List Example
 examples =
     record { capture = []; text = "" }
@@ -29,5 +30,5 @@ examples =
     ∷ []
 
 pub examples-heard : map (λ (e : Example). hearingOf (e .capture)) examples ≡ map (λ (e : Example). octets (e .text)) examples
-unfolding hearingOf linesOf endsTo endsWith goodAt goodFrame every sumOf row decThen dec decBy
+unfolding hearingOf linesOf endsTo endsAfter goodAt goodFrame every sumOf row decThen dec decBy
 examples-heard = refl

@@ -15,7 +15,7 @@ use Rattle.text.proofs.TextLaws.{row-short}
 use Rattle.text.proofs.WroteLaws.{put-none, put-put, put-as}
 use Rattle.octets.specs.Feeding.{freshOctets, fedTo, heardAt}
 use Rattle.octets.specs.declared.HeardOctet.{HeardOctet}
-use Rattle.hearing.specs.Ends.{endsWith, endsTo, endsOf, endIn}
+use Rattle.hearing.specs.Ends.{endsAfter, endsTo, endsOf, endIn}
 use Rattle.hearing.specs.Hearing.{linesOf, hearingOf}
 use Rattle.hearing.proofs.EndLaws.{ends-few, octet-ends}
 
@@ -46,7 +46,7 @@ end-none d at k h f = put-as (sym (ap (λ (t : Bool). linesOf (pick t ((8 * k + 
 lines-short : (capture : List ℕ) (n : ℕ) → n < 1000000 → length (linesOf (endsTo capture n)) ≤ 7 * length (endsTo capture n)
 unfolding endsTo linesOf
 lines-short capture zero h = omega arith
-lines-short capture (suc n) h = go (endsWith capture (suc n)) (lines-short capture n (omega arith))
+lines-short capture (suc n) h = go (endsAfter capture (suc n)) (lines-short capture n (omega arith))
   where
     go : (t : Bool) → length (linesOf (endsTo capture n)) ≤ 7 * length (endsTo capture n)
         → length (linesOf (endsTo capture n ++ pick t (suc n ∷ []) [])) ≤ 7 * length (endsTo capture n ++ pick t (suc n ∷ []) [])

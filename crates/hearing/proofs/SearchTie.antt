@@ -13,28 +13,28 @@ use Rattle.capture.specs.declared.Found.the-variants.{At, Refused}
 use Rattle.capture.proofs.SieveLaws.{good-whole}
 use Rattle.capture.proofs.SearchLaws.{found-least, none-answered}
 use Rattle.bits.proofs.TestLaws.{never-true}
-use Rattle.hearing.specs.Ends.{endsWith, endsTo, endsOf, andOn, foundFrom}
+use Rattle.hearing.specs.Ends.{endsAfter, endsTo, endsOf, andOn, foundFrom}
 use Rattle.hearing.specs.Hearing.{linesOf, hearingOf}
 use Rattle.hearing.proofs.EndLaws.{ends-none, ends-one, ends-good}
 
 module _ (capture : List ℕ) where
-  ends-at : (p : ℕ) → endsWith capture (p + 128) ≡ goodAt capture p
-  unfolding endsWith
+  ends-at : (p : ℕ) → endsAfter capture (p + 128) ≡ goodAt capture p
+  unfolding endsAfter
   ends-at p =
       let e : p + 128 - 128 ≡ p = omega arith in
       ap (λ (t : Bool). both t (goodAt capture (p + 128 - 128))) (le-leb 128 (p + 128) (omega arith)) ∙ ap (goodAt capture) e
 
-  none-short : (n : ℕ) → n < 128 → endsWith capture n ≡ false
+  none-short : (n : ℕ) → n < 128 → endsAfter capture n ≡ false
   none-short n h = never-true _ (λ e. omega (arith, ends-good capture n e .0))
 
-  none-past : (n : ℕ) → 8 * length capture < n → endsWith capture n ≡ false
+  none-past : (n : ℕ) → 8 * length capture < n → endsAfter capture n ≡ false
   none-past n h = never-true _ (λ e. let p = ends-good capture n e in omega (arith, p .0, good-whole capture (n - 128) (p .1)))
 
   -- where none is good at the d positions from a on
-  none-from : (a d : ℕ) → ((p : ℕ) → a ≤ p → p < a + d → goodAt capture p ≡ false) → (n : ℕ) → a + 127 < n → n ≤ a + 127 + d → endsWith capture n ≡ false
+  none-from : (a d : ℕ) → ((p : ℕ) → a ≤ p → p < a + d → goodAt capture p ≡ false) → (n : ℕ) → a + 127 < n → n ≤ a + 127 + d → endsAfter capture n ≡ false
   none-from a d h n p q =
       let e : n - 128 + 128 ≡ n = omega arith in
-      ap (endsWith capture) (sym e) ∙ ends-at (n - 128) ∙ h (n - 128) (omega arith) (omega arith)
+      ap (endsAfter capture) (sym e) ∙ ends-at (n - 128) ∙ h (n - 128) (omega arith) (omega arith)
 
   module _ (short : length capture ≤ 65536) where
     -- from a start on: the numbers up to start + 127 belong to frames that begin before it
@@ -63,7 +63,7 @@ module _ (capture : List ℕ) where
             let from : start ≤ p = f .0 in
             let e : start + 127 + (d + 1) ≡ p + 128 = omega arith in
             let e₂ : p + 1 + 127 ≡ p + 128 = omega arith in
-            let here : endsWith capture (start + 127 + (d + 1)) ≡ true = ap (endsWith capture) e ∙ ends-at p ∙ f .1 in
+            let here : endsAfter capture (start + 127 + (d + 1)) ≡ true = ap (endsAfter capture) e ∙ ends-at p ∙ f .1 in
             let one : endsTo capture (p + 128) ≡ endsTo capture (start + 127) ++ (p + 128) ∷ [] =
             ap (endsTo capture) (sym e)
             ∙ ends-one capture (start + 127) (d + 1) (omega arith) here (λ n a b. none-from start d (λ q l m. f .2 q l (omega arith)) n a (omega arith))

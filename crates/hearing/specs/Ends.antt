@@ -12,19 +12,20 @@ use Rattle.octets.specs.Feeding.{heardAt}
 use Rattle.octets.specs.declared.HeardOctet.{HeardOctet}
 
 -- with n bits read, a good frame has come to its end: it lies whole at position n - 128
-unfoldable pub endsWith : List ℕ → ℕ → Bool
-endsWith capture n = both (leb 128 n) (goodAt capture (n - 128))
+unfoldable pub endsAfter : List ℕ → ℕ → Bool
+endsAfter capture n = both (leb 128 n) (goodAt capture (n - 128))
 
 -- each number of 1 to n with which one has, rising
 unfoldable pub endsTo : List ℕ → ℕ → List ℕ
 endsTo capture zero = []
-endsTo capture (suc n) = endsTo capture n ++ pick (endsWith capture (suc n)) (suc n ∷ []) []
+endsTo capture (suc n) = endsTo capture n ++ pick (endsAfter capture (suc n)) (suc n ∷ []) []
 
 -- those of a whole capture
 abbrev pub endsOf : List ℕ → List ℕ
 endsOf capture = endsTo capture (8 * length capture)
 
--- what the octet receiver says of octet k, from 0: the bits read through the last bit of a frame that ended in it; and of the first k octets
+-- what the octet receiver says of octet k, from 0: the bits read through the last bit of a frame that ended in it; and of the first k
+-- octets
 abbrev pub endIn : ℕ → HeardOctet → List ℕ
 endIn k h = pick (h .frame) ((8 * k + h .bit) ∷ []) []
 

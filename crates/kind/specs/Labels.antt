@@ -45,6 +45,6 @@ unfoldable pub namedOf : ℕ → Named
 namedOf label = answered N.Refused (nameRefusal label) (N.Kind (kindNamed (kindFrom allKinds label)))
 
 -- 01's number and place of each case
-abbrev pub refusalOf : Named → Refusal
-refusalOf (N.Kind k) = numbered success
-refusalOf (N.Refused r) = r
+abbrev pub refusalInNamed : Named → Refusal
+refusalInNamed (N.Kind k) = numbered success
+refusalInNamed (N.Refused r) = r

@@ -1,6 +1,6 @@
--- The kinds, their labels and their layouts (001, Annex A, Appendix 5, and Annex C, Appendices 2 and 3; 01, 'Messages'; 02, items 1 and 4). A
--- layout begins above the label, at bit 7, and says of its bits what is a fixed pattern, what is spare (house rule: zero) and which codes are
--- not used.
+-- The kinds, their labels and their layouts (001, Annex A, Appendix 5, and Annex C, Appendices 2 and 3; 01, 'Messages'; 02, items 1 and 4).
+-- A layout begins above the label, at bit 7, and says of its bits what is a fixed pattern, what is spare (house rule: zero) and which codes
+-- are not used.
 use mathlib.Core.List.{List, [], _∷_}
 use Prim.Native.Nat.{ℕ, _+_, _-_}
 use Rattle.bits.specs.Layout.{Field, pattern, spare, number, code, flag, signed}

@@ -42,7 +42,8 @@ const TEST: Table = Table {
     ],
 };
 
-// S.3: spare, Mode 3/A, request/reply without 1, 3, 5, 6 and 7, emergency, presence of Modes 1, 2 and 3/A, validation, spare, Mode 1, spare, Mode 2.
+// S.3: spare, Mode 3/A, request/reply without 1, 3, 5, 6 and 7, emergency, presence of Modes 1, 2 and 3/A, validation, spare, Mode 1,
+// spare, Mode 2.
 const IFF: Table = Table {
     count: 12,
     widths: [2, 12, 3, 1, 1, 1, 1, 1, 2, 5, 2, 12],

@@ -4,7 +4,7 @@ ghost use mathlib.Core.Path.{_≡_};
 ghost use Prim.Native.Nat.{_<_};
 ghost use lib.ListN.{length};
 ghost use Rattle.kind.specs.Layouts.{allKinds, numberOf, labelOf};
-ghost use Rattle.kind.specs.Labels.{kindFrom, labelledOf, refusalOf, namedOf};
+ghost use Rattle.kind.specs.Labels.{kindFrom, labelledOf, refusalInNamed, namedOf};
 
 mod layouts;
 
@@ -103,7 +103,7 @@ pub enum Named {
 impl Named {
     // The answer as a number, a place and a bit.
     pub fn refusal(self) -> Refusal
-        ensures { λ r. ⌜ r ≡ refusalOf self ⌝ }
+        ensures { λ r. ⌜ r ≡ refusalInNamed self ⌝ }
     {
         match self {
             Named::Kind(_) => Refusal::of(refusal::SUCCESS),

@@ -15,7 +15,7 @@ use Rattle.refusal.specs.declared.Refusal.{Refusal}
 use Rattle.frame.specs.Frame.{goodFrame}
 use Rattle.line.specs.Levels.{refused, kept, bitsAfter, bitsOf, decoded}
 use Rattle.line.specs.Machine.{nothingHanded, answerWith, heardOf, run}
-use Rattle.line.specs.Hearing.{lastFrame, endsGood, toldOf, toldRefused, told, swap}
+use Rattle.line.specs.Told.{lastFrame, endsGood, toldOf, toldRefused, told, swap}
 use Rattle.line.specs.Sending.{levelsAfter, imageBits, sendChecks, sendRefusal, sendLevels}
 use Rattle.line.specs.declared.Heard.{Heard}
 use Rattle.bits.proofs.TestLaws.{both-true, clash}
@@ -24,7 +24,7 @@ use Rattle.bits.proofs.OctetLaws.{bit-lt, octets-bits, octets-ext}
 use Rattle.refusal.proofs.CheckLaws.{Passed, success-passed, given}
 use Rattle.frame.proofs.FrameLaws.{good-ext, apart}
 use Rattle.line.proofs.WindowLaws.{Bits, more, bits-tab}
-use Rattle.line.proofs.LevelLaws.{lastOf, bits-append, length-bits, kept-append, kept-snoc, kept-all, bits-last, refused-swap, decoded-swap, told-bits, levels-bits}
+use Rattle.line.proofs.LevelLaws.{lastLevel, bits-append, length-bits, kept-append, kept-snoc, kept-all, bits-last, refused-swap, decoded-swap, told-bits, levels-bits}
 use Rattle.line.proofs.Holding.{heard-told}
 
 -- A fresh receiver that was fed any levels answers any next level as the decoded bits say: at a level that is 0 or 1 it
@@ -84,9 +84,9 @@ frame-means ls l f = go (refused l) refl (sym (ap (λ (h : Heard). h .frame) (de
 later : (ks t : List ℕ) (l m : ℕ) → (y : List ℕ) × (bitsOf ((ks ++ l ∷ []) ++ (t ++ m ∷ [])) ≡ bitsOf (ks ++ l ∷ []) ++ y) × (1 ≤ length y)
 later [] t l m = (bitsAfter l (t ++ m ∷ []), refl, rw (length-bits l (t ++ m ∷ []), length-append t (m ∷ [])) (omega arith))
 later (k ∷ r) t l m = (
-  bitsAfter (lastOf k (r ++ l ∷ [])) (t ++ m ∷ []),
+  bitsAfter (lastLevel k (r ++ l ∷ [])) (t ++ m ∷ []),
   bits-append k (r ++ l ∷ []) (t ++ m ∷ []),
-  rw (length-bits (lastOf k (r ++ l ∷ [])) (t ++ m ∷ []), length-append t (m ∷ [])) (omega arith),
+  rw (length-bits (lastLevel k (r ++ l ∷ [])) (t ++ m ∷ []), length-append t (m ∷ [])) (omega arith),
 )
 
 two-apart : (h y : List ℕ) → 1 ≤ length y → endsGood h ≡ true → endsGood (h ++ y) ≡ true → length h + 128 ≤ length (h ++ y)

@@ -13,7 +13,7 @@ use Rattle.bits.specs.Octets.{bitAt, octetsOf}
 use Rattle.frame.specs.Frame.{goodFrame}
 use Rattle.line.specs.Levels.{refused, differ, kept, bitsAfter, bitsOf, decoded}
 use Rattle.line.specs.Machine.{windowImage, freshOf, accepted, holdsFrame, answerOf, heardOf, runFrom, run}
-use Rattle.line.specs.Hearing.{lastFrame, endsGood, toldOf, told}
+use Rattle.line.specs.Told.{lastFrame, endsGood, toldOf, told}
 use Rattle.line.specs.declared.Window.{Window}
 use Rattle.line.specs.declared.Receiver.{Receiver}
 use Rattle.line.specs.declared.Heard.{Heard}
@@ -21,7 +21,7 @@ use Rattle.bits.proofs.TestLaws.{by-lt, clash, never-true, rule-at}
 use Rattle.bits.proofs.OctetLaws.{octets-bits, octets-ext}
 use Rattle.frame.proofs.FrameLaws.{good-ext, start-zero}
 use Rattle.line.proofs.WindowLaws.{Bits, none, valFrom, val-snoc, val-div, val-bit, Low, push-low, window-octet, window-bit}
-use Rattle.line.proofs.LevelLaws.{lastOf, last-snoc, differ-le, bits-append, bits-bits}
+use Rattle.line.proofs.LevelLaws.{lastLevel, last-snoc, differ-le, bits-append, bits-bits}
 
 -- the ones of an idle line
 abbrev pub idle : ℕ
@@ -34,7 +34,7 @@ some (k ∷ ks) = true
 -- what a receiver holds that has accepted the levels ks
 record Holds (s : Receiver) (ks : List ℕ) : Type 0 where
   window : Low (s .window) (valFrom idle (bitsOf ks))
-  last : s .last ≡ lastOf 0 ks
+  last : s .last ≡ lastLevel 0 ks
   started : s .started ≡ some ks
 
 fresh-holds : Holds freshOf []
@@ -43,10 +43,10 @@ fresh-holds = record { window = record { older = refl; newer = refl }; last = re
 accept-holds : (s : Receiver) (ks : List ℕ) (l : ℕ) → Holds s ks → Holds (accepted s l) (ks ++ l ∷ [])
 accept-holds s [] l h = record { window = rw (h .started) (h .window); last = refl; started = refl }
 accept-holds s (k ∷ r) l h =
-    let e : bitsAfter k (r ++ l ∷ []) ≡ bitsAfter k r ++ differ (lastOf k r) l ∷ [] = bits-append k r (l ∷ []) in
+    let e : bitsAfter k (r ++ l ∷ []) ≡ bitsAfter k r ++ differ (lastLevel k r) l ∷ [] = bits-append k r (l ∷ []) in
     record {
       window =
-          rw (h .started, e, val-snoc idle (bitsAfter k r) (differ (lastOf k r) l), ← h .last)
+          rw (h .started, e, val-snoc idle (bitsAfter k r) (differ (lastLevel k r) l), ← h .last)
           (push-low _ _ _ (differ-le (s .last) l) (h .window));
       last = sym (last-snoc k r l);
       started = refl;

@@ -10,16 +10,16 @@ use lib.ListN.{length, getD, set, length-append}
 use lib.Seq.{getD-append-seam, getD-append-add}
 use Rattle.bits.specs.Tests.{pick}
 use Rattle.line.specs.Levels.{refused, differ, kept, bitsAfter, bitsOf, decoded}
-use Rattle.line.specs.Hearing.{swap}
+use Rattle.line.specs.Told.{swap}
 use Rattle.line.specs.Sending.{next, levelsAfter}
 use Rattle.line.proofs.WindowLaws.{Bits, none, more}
 
 -- the last level of a run that follows the level d
-abbrev pub lastOf : ℕ → List ℕ → ℕ
-lastOf d [] = d
-lastOf d (x ∷ xs) = lastOf x xs
+abbrev pub lastLevel : ℕ → List ℕ → ℕ
+lastLevel d [] = d
+lastLevel d (x ∷ xs) = lastLevel x xs
 
-pub last-snoc : (d : ℕ) (ks : List ℕ) (l : ℕ) → lastOf d (ks ++ l ∷ []) ≡ l
+pub last-snoc : (d : ℕ) (ks : List ℕ) (l : ℕ) → lastLevel d (ks ++ l ∷ []) ≡ l
 last-snoc d [] l = refl
 last-snoc d (k ∷ ks) l = last-snoc k ks l
 
@@ -32,7 +32,7 @@ differ-le a b = go (eqb a b)
     go true = omega arith
     go false = omega arith
 
-pub bits-append : (a : ℕ) (r t : List ℕ) → bitsAfter a (r ++ t) ≡ bitsAfter a r ++ bitsAfter (lastOf a r) t
+pub bits-append : (a : ℕ) (r t : List ℕ) → bitsAfter a (r ++ t) ≡ bitsAfter a r ++ bitsAfter (lastLevel a r) t
 bits-append a [] t = refl
 bits-append a (x ∷ r) t = ap (λ (u : List ℕ). differ a x ∷ u) (bits-append x r t)
 
@@ -60,8 +60,8 @@ pub bits-behind : (rs ts : List ℕ) → 1 ≤ length ts → (y : List ℕ) × (
 bits-behind rs [] h = absurd (omega arith)
 bits-behind [] (c ∷ cs) h = ([], refl)
 bits-behind (a ∷ r) (c ∷ cs) h = (
-  bitsAfter a r ++ differ (lastOf a r) c ∷ [],
-  bits-append a r (c ∷ cs) ∙ sym (append-assoc (bitsAfter a r) (differ (lastOf a r) c ∷ []) (bitsAfter c cs)),
+  bitsAfter a r ++ differ (lastLevel a r) c ∷ [],
+  bits-append a r (c ∷ cs) ∙ sym (append-assoc (bitsAfter a r) (differ (lastLevel a r) c ∷ []) (bitsAfter c cs)),
 )
 
 -- ---- levels that are not refused
@@ -195,6 +195,6 @@ pub levels-bits : (a : ℕ) (bs : List ℕ) → a ≤ 1 → Bits (levelsAfter a 
 levels-bits a [] h = none
 levels-bits a (b ∷ bs) h = more (next-le a b h) (levels-bits (next a b) bs (next-le a b h))
 
-pub levels-snoc : (a : ℕ) (bs : List ℕ) (b : ℕ) → levelsAfter a (bs ++ b ∷ []) ≡ levelsAfter a bs ++ next (lastOf a (levelsAfter a bs)) b ∷ []
+pub levels-snoc : (a : ℕ) (bs : List ℕ) (b : ℕ) → levelsAfter a (bs ++ b ∷ []) ≡ levelsAfter a bs ++ next (lastLevel a (levelsAfter a bs)) b ∷ []
 levels-snoc a [] b = refl
 levels-snoc a (x ∷ bs) b = ap (λ (t : List ℕ). next a x ∷ t) (levels-snoc (next a x) bs b)

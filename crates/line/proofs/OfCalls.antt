@@ -5,7 +5,7 @@ use mathlib.Core.List.{List, [], _∷_, _++_, append-assoc, append-nil}
 use Prim.Native.Nat.{ℕ}
 use contract.Lifetimes.{Lfts}
 use Rattle.line.specs.Machine.{freshOf, heardOf, runFrom, run}
-use Rattle.line.specs.Hearing.{told}
+use Rattle.line.specs.Told.{told}
 use Rattle.line.specs.declared.Receiver.{Receiver}
 use Rattle.line.specs.declared.Heard.{Heard}
 use Rattle.line.proofs.Holding.{run-snoc}

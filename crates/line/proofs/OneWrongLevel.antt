@@ -1,5 +1,6 @@
--- ONE WRONG LEVEL (02, item 7; 001, Annex A, Appendix 3, paragraph 3). Take any good frame as sent, with the level before it, and change any one of the 129 levels: the
--- 128 bits decoded at that place are not a good frame. No claim is made of other alignments. Assumes nothing.
+-- ONE WRONG LEVEL (02, item 7; 001, Annex A, Appendix 3, paragraph 3). Take any good frame as sent, with the level before it, and change
+-- any one of the 129 levels: the 128 bits decoded at that place are not a good frame. No claim is made of other alignments. Assumes
+-- nothing.
 use mathlib.Core.Path.{_≡_, refl, sym, ap, ap₂, _∙_}
 use mathlib.Core.Bool.{Bool, true, false}
 use mathlib.Core.List.{List, [], _∷_, _++_}
@@ -17,7 +18,7 @@ use Rattle.refusal.specs.declared.Refusal.{Refusal}
 use Rattle.frame.specs.Frame.{startGood, marksGood, columnOf, checksGood, goodFrame, frameVerdict, verdictOf}
 use Rattle.line.specs.Levels.{differ, kept, bitsOf, decoded}
 use Rattle.line.specs.Machine.{nothingHanded, answerWith, heardOf, run}
-use Rattle.line.specs.Hearing.{lastFrame, swap}
+use Rattle.line.specs.Told.{lastFrame, swap}
 use Rattle.line.specs.Sending.{imageBits, sendRefusal}
 use Rattle.line.specs.WrongLevel.{changedAt, onTheLine, wrongBits, turned, beside, refusalAt}
 use Rattle.bits.proofs.TestLaws.{never-true, clash, both-false, between, in-between, by-lt, every-fails, every-all, every-at}

@@ -13,7 +13,7 @@ use Rattle.frame.specs.Frame.{frameVerdict, verdictOf}
 use Rattle.line.specs.Sending.{next, levelsAfter, imageBits, sendRefusal, sendLevels}
 use Rattle.refusal.proofs.CheckLaws.{given, left}
 use Rattle.frame.proofs.FrameLaws.{verdict-image}
-use Rattle.line.proofs.LevelLaws.{lastOf, last-snoc, levels-snoc}
+use Rattle.line.proofs.LevelLaws.{lastLevel, last-snoc, levels-snoc}
 
 -- ---- the checks in their order
 
@@ -50,7 +50,7 @@ pub record Sending (bits : List ℕ) (previous : ℕ) (levels : List ℕ) (level
   pub small : i ≤ 128
   pub long : length levels ≡ 128
   pub put : take i levels ≡ levelsAfter previous (take i bits)
-  pub now-at : level ≡ lastOf previous (levelsAfter previous (take i bits))
+  pub now-at : level ≡ lastLevel previous (levelsAfter previous (take i bits))
   pub fits : level ≤ 1
 
 pub sending-start : (bits : List ℕ) (previous : ℕ) (levels : List ℕ) → previous ≤ 1 → length levels ≡ 128 → Sending bits previous levels previous 0

@@ -1,5 +1,5 @@
 pub mod Levels
 pub mod Machine
-pub mod Hearing
+pub mod Told
 pub mod Sending
 pub mod WrongLevel

@@ -1,5 +1,5 @@
 -- The receiver as it works: a window of the last 128 bits, one level at a time (01, 'Orders of checks': a state that goes in with one
--- level and comes back with the answer). Hearing.antt says what it must hand over.
+-- level and comes back with the answer). Told.antt says what it must hand over.
 use mathlib.Core.Bool.{Bool, true, false}
 use mathlib.Core.List.{List, [], _∷_, _++_}
 use Prim.Native.Nat.{ℕ, _+_, _-_, _*_, _/_, _%_, _^_}

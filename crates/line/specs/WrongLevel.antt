@@ -8,7 +8,7 @@ use lib.ListN.{getD, set}
 use Rattle.bits.specs.Tests.{pick, both, isBetween}
 use Rattle.refusal.specs.Refusals.{badStart, badMark, badCheck}
 use Rattle.line.specs.Levels.{decoded}
-use Rattle.line.specs.Hearing.{swap}
+use Rattle.line.specs.Told.{swap}
 use Rattle.line.specs.Sending.{sendLevels}
 
 -- levels with number i changed: 0 for 1 and 1 for 0
@@ -35,12 +35,12 @@ turned which b n = pick (which n) (1 - b n) (b n)
 abbrev pub beside : ℕ → ℕ → Bool
 beside i n = isBetween i (i + 1) n
 
--- what is wrong first with a good frame when level i is changed: up to level 8 the start group; beside the final one, bit 128, or beside a mark, bits 9,
--- 17, .. 121, the marks; else a check column
+-- what is wrong first with a good frame when level i is changed: up to level 8 the start group; beside the final one, bit 128, or beside a
+-- mark, bits 9, 17, .. 121, the marks; else a check column
 abbrev pub refusalAt : ℕ → ℕ
 refusalAt i = pick (leb i 8) badStart (pick (leb 127 i) badMark (pick (leb (i % 8) 1) badMark badCheck))
 
--- two wrong levels pass together if each alone would be told by a check bit and both stand at the same place of their groups: the two columns beside
--- them have two turned bits each
+-- two wrong levels pass together if each alone would be told by a check bit and both stand at the same place of their groups: the two
+-- columns beside them have two turned bits each
 abbrev pub passTogether : ℕ → ℕ → Bool
 passTogether i k = both (eqb (refusalAt i) badCheck) (both (eqb (refusalAt k) badCheck) (eqb (i % 8) (k % 8)))

@@ -146,19 +146,19 @@ valueOctet h = heard-at (h .frame) (h .bit) (h .image)
 
 unfoldable pub answer : Asked → Came
 answer (verdict-of image) = tell (verdictOf image) nothing
-answer (open-image image) = tell (opening.refusalOf (openOf image)) (valueOpened (openOf image))
+answer (open-image image) = tell (opening.refusalInOpened (openOf image)) (valueOpened (openOf image))
 answer (name-track image) = nameOf (trackIn (wordMessage (firstWord image))) (replicate 5 0)
-answer (kind-named label) = tell (labels.refusalOf (namedOf label)) (valueNamed (namedOf label))
+answer (kind-named label) = tell (labels.refusalInNamed (namedOf label)) (valueNamed (namedOf label))
 answer (close-pair first second b) = tell (closeRefusal first second b) (buffer (closeImage first second b))
 answer (send-after level image b) = tell (sendRefusal image level b) (buffer (sendLevels image level b))
 answer (hear-after before level) = tellHeard (heardOf (run before) level)
 answer (hear-octets run) = told 0 0 (valueOctet (heardAt run (length run - 1)))
 answer (search-from start capture) =
-    tell (searching.refusalOf (searchOf capture start)) (value (positionFound (searchOf capture start)))
-answer (number-of text) = tell (tracks.refusalOf (trackedOf (octets text))) (value (numberIn (trackedOf (octets text))))
+    tell (searching.refusalInFound (searchOf capture start)) (value (positionFound (searchOf capture start)))
+answer (number-of text) = tell (tracks.refusalInTracked (trackedOf (octets text))) (value (numberIn (trackedOf (octets text))))
 answer (text-of number b) = nameOf number b
 answer (relay-by image xs ys b) = tell (relayRefusal image xs ys b) (buffer (relayImage image xs ys b))
-answer (altitude-of feet) = tell (heights.refusalOf (heightOf feet)) (valueHeight (heightOf feet))
+answer (altitude-of feet) = tell (heights.refusalInHeight (heightOf feet)) (valueHeight (heightOf feet))
 
 -- ---- a row
 

@@ -1,6 +1,7 @@
--- THE PUBLIC CALLS, as the laws of this folder speak of them: what goes in and what comes out, by the call's own contract. `Post κs a r e` is what the kit makes of a
--- function's `ensures`: the answer r, with e at the exit, meets it on the arguments a, whatever lifetimes κs they have. So `Opens image r` says that the
--- contract of `open` leaves the answer r to an image of these octets. Of each call: what it says as one equation, and that every input has an answer. Assumes nothing.
+-- THE PUBLIC CALLS, as the laws of this folder speak of them: what goes in and what comes out, by the call's own contract. `Post κs a r e`
+-- is what the kit makes of a function's `ensures`: the answer r, with e at the exit, meets it on the arguments a, whatever lifetimes κs
+-- they have. So `Opens image r` says that the contract of `open` leaves the answer r to an image of these octets. Of each call: what it
+-- says as one equation, and that every input has an answer. Assumes nothing.
 use mathlib.Core.Path.{_≡_, refl}
 use mathlib.Core.List.{List}
 use Prim.Native.Nat.{ℕ}

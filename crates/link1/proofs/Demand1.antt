@@ -1,7 +1,9 @@
--- DEMAND 1: no input, however damaged, makes it stop, read outside its buffer or run on. Each public call checks its own input. A refusal gives its number and place,
--- hands back the state it was given and writes nothing. That no call stops, reads outside its buffer or runs on is what the prover shows of every function by itself, so no law says it. Over the
--- calls' own contracts: no call asks anything of its caller; what is refused is of 01's table as 02 amends it (`ofTable`), and a success is number, place and bit 0; on a refusal
--- each lent buffer and the state are as they were, and the rest of the answer is zero. Which numbers each call gives stands in Orders.antt. Assumes nothing.
+-- DEMAND 1: no input, however damaged, makes it stop, read outside its buffer or run on. Each public call checks its own input. A refusal
+-- gives its number and place, hands back the state it was given and writes nothing. That no call stops, reads outside its buffer or runs on
+-- is what the prover shows of every function by itself, so no law says it. Over the calls' own contracts: no call asks anything of its
+-- caller; what is refused is of 01's table as 02 amends it (`ofTable`), and a success is number, place and bit 0; on a refusal each lent
+-- buffer and the state are as they were, and the rest of the answer is zero. Which numbers each call gives stands in Orders.antt. Assumes
+-- nothing.
 use mathlib.Core.Path.{_≡_, refl, ap, _∙_}
 use mathlib.Core.Bool.{Bool, true, false}
 use mathlib.Core.List.{List}
@@ -159,28 +161,28 @@ track-text-refuses {number} {buffer} s = buffer-left (texts.textChecks number bu
 abbrev pub TellsRefusal : {A : Type 0} → (A → Refusal) → (Refusal → A) → A → Type 0
 TellsRefusal refusalOf refused r = (ofTable (refusalOf r) ≡ true) × ((x : Refusal) → r ≡ refused x → Refuses x)
 
-pub open-refuses : {image : List ℕ} {r : Opened} → Opens image r → TellsRefusal opening.refusalOf O.Refused r
+pub open-refuses : {image : List ℕ} {r : Opened} → Opens image r → TellsRefusal opening.refusalInOpened O.Refused r
 unfolding opening.openOf opening.openRefusal
-open-refuses {image} o = refusal-told (opening.openChecks image) refl (open-bits image) O.Refused opening.refusalOf
+open-refuses {image} o = refusal-told (opening.openChecks image) refl (open-bits image) O.Refused opening.refusalInOpened
     (O.Pair (opening.wordMessage (opening.firstWord image)) (opening.wordMessage (opening.secondWord image))) (λ x. refl) refl (λ x z. zero-one (cc)) (opened o)
 
-pub kind-named-refuses : {label : ℕ} {r : Named} → Names label r → TellsRefusal labels.refusalOf N.Refused r
+pub kind-named-refuses : {label : ℕ} {r : Named} → Names label r → TellsRefusal labels.refusalInNamed N.Refused r
 unfolding labels.namedOf labels.nameRefusal
 kind-named-refuses {label} n =
-    refusal-told (labels.nameChecks label) refl tt N.Refused labels.refusalOf (N.Kind (labels.kindNamed (labels.kindFrom allKinds label))) (λ x. refl) refl (λ x z. zero-one (cc)) (named n)
+    refusal-told (labels.nameChecks label) refl tt N.Refused labels.refusalInNamed (N.Kind (labels.kindNamed (labels.kindFrom allKinds label))) (λ x. refl) refl (λ x z. zero-one (cc)) (named n)
 
-pub search-refuses : {capture : List ℕ} {start : ℕ} {r : Found} → Searches capture start r → TellsRefusal searching.refusalOf F.Refused r
+pub search-refuses : {capture : List ℕ} {start : ℕ} {r : Found} → Searches capture start r → TellsRefusal searching.refusalInFound F.Refused r
 unfolding searching.searchOf searching.searchRefusal
 search-refuses {capture} {start} f =
-    refusal-told (searching.searchChecks capture start) refl tt F.Refused searching.refusalOf (F.At (searching.leastFrom capture start)) (λ x. refl) refl (λ x z. zero-one (cc)) (searched f)
+    refusal-told (searching.searchChecks capture start) refl tt F.Refused searching.refusalInFound (F.At (searching.leastFrom capture start)) (λ x. refl) refl (λ x z. zero-one (cc)) (searched f)
 
-pub track-number-refuses : {text : List ℕ} {r : Tracked} → Numbers text r → TellsRefusal texts.refusalOf T.Refused r
+pub track-number-refuses : {text : List ℕ} {r : Tracked} → Numbers text r → TellsRefusal texts.refusalInTracked T.Refused r
 unfolding texts.trackedOf texts.trackRefusal
-track-number-refuses {text} t = refusal-told (texts.trackChecks text) refl tt T.Refused texts.refusalOf (T.Number (texts.textNumber text)) (λ x. refl) refl (λ x z. zero-one (cc)) (numbered-as t)
+track-number-refuses {text} t = refusal-told (texts.trackChecks text) refl tt T.Refused texts.refusalInTracked (T.Number (texts.textNumber text)) (λ x. refl) refl (λ x z. zero-one (cc)) (numbered-as t)
 
-pub altitude-refuses : {feet : ℤ} {r : Height} → Climbs feet r → TellsRefusal heights.refusalOf H.Refused r
+pub altitude-refuses : {feet : ℤ} {r : Height} → Climbs feet r → TellsRefusal heights.refusalInHeight H.Refused r
 unfolding heights.heightOf heights.heightRefusal
-altitude-refuses {feet} h = refusal-told (heights.heightChecks feet) refl tt H.Refused heights.refusalOf (H.At (record { 0 = heights.altitudeOf feet })) (λ x. refl) refl (λ x z. zero-one (cc)) (climbed h)
+altitude-refuses {feet} h = refusal-told (heights.heightChecks feet) refl tt H.Refused heights.refusalInHeight (H.At (record { 0 = heights.altitudeOf feet })) (λ x. refl) refl (λ x z. zero-one (cc)) (climbed h)
 
 -- the value of a refusal is zero
 pub no-position : (x : Refusal) → searching.positionFound (F.Refused x) ≡ 0

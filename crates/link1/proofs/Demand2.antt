@@ -1,6 +1,7 @@
--- DEMAND 2: opening and closing follow ATDLP-5.01 and the pair table. An accepted frame closes again to the same 128 bits, as 02, item 2, amends it: with absent modes' codes zeroed
--- and the check bits worked anew; a legal pair opens again unchanged. A search gives the first good frame's position. A shift gives the nearest step to the exact sum
--- in feet. Over the calls' own contracts (Calls.antt), each law with its whole statement. Assumes nothing.
+-- DEMAND 2: opening and closing follow ATDLP-5.01 and the pair table. An accepted frame closes again to the same 128 bits, as 02, item 2,
+-- amends it: with absent modes' codes zeroed and the check bits worked anew; a legal pair opens again unchanged. A search gives the first
+-- good frame's position. A shift gives the nearest step to the exact sum in feet. Over the calls' own contracts (Calls.antt), each law with
+-- its whole statement. Assumes nothing.
 use mathlib.Core.Path.{_≡_, refl, sym, ap, subst, _∙_}
 use mathlib.Core.Bool.{true, false}
 use mathlib.Core.List.{List, [], _∷_}
@@ -43,7 +44,7 @@ use Rattle.track.specs.declared.Tracked.the-variants as T
 use Rattle.pair.specs.Pairs.{isIn, pairOf}
 use Rattle.pair.specs.Opening.{isLabelled, wordKind, wordTrouble, wordMessage, firstWord, secondWord, openOf}
 use Rattle.pair.specs.Closing.{closeChecks, closeRefusal}
-use Rattle.pair.specs.Zeroed.{zeroedImage, Clear}
+use Rattle.pair.specs.ZeroedImage.{zeroedImage, Clear}
 use Rattle.pair.specs.declared.Opened.{Opened}
 use Rattle.pair.specs.declared.Opened.the-variants.{Pair, Refused}
 use Rattle.shift.specs.Positions.{positionOf, isSomewhere, xOf, yOf, placedAt}
@@ -64,7 +65,8 @@ use Rattle.link1.proofs.Calls.{Judges, judged, Opens, opened, Closes, c
 
 -- ---- a good frame (001, Annex A, Appendix 3, paragraphs 2 and 3)
 
--- bits 1 to 8 are zeros; bits 9, 17, .. 121 are ones, and so is bit 128; check bit j, from 1 to 6, makes odd the number of ones among bit j of the fourteen data groups and itself
+-- bits 1 to 8 are zeros; bits 9, 17, .. 121 are ones, and so is bit 128; check bit j, from 1 to 6, makes odd the number of ones among bit j
+-- of the fourteen data groups and itself
 pub good-frame : (b : ℕ → ℕ)
     → (goodFrame b ≡ true)
     ↔ (((n : ℕ) → 1 ≤ n → n ≤ 8 → b n ≡ 0)
@@ -77,7 +79,8 @@ good-frame = frames.good-exactly
 pub seventh-free : (b c : ℕ → ℕ) → ((n : ℕ) → 1 ≤ n → n ≤ 128 → (n % 8 ≡ 0 → 16 ≤ n → n ≤ 120 → ⊥) → b n ≡ c n) → goodFrame b ≡ goodFrame c
 seventh-free = frames.seventh-free
 
--- 'groups 1 to 7 carry the first message's bits 1 to 49 in rising order, groups 8 to 14 the second's': message bit 7 (g - 1) + j of message k is bit j of data group 7 (k - 1) + g
+-- 'groups 1 to 7 carry the first message's bits 1 to 49 in rising order, groups 8 to 14 the second's': message bit 7 (g - 1) + j of message
+-- k is bit j of data group 7 (k - 1) + g
 pub groups-carry : (k g j : ℕ) → 1 ≤ k → k ≤ 2 → 1 ≤ g → g ≤ 7 → 1 ≤ j → j ≤ 7 → placeOf k (7 * (g - 1) + j) ≡ 8 * (7 * (k - 1) + g) + 1 + j
 groups-carry k g j a b c d e f = omega arith
 
@@ -163,7 +166,8 @@ closed-opens {buffer} {after} {first} {second} c o = opened o ∙ ap openOf (clo
 
 -- ---- which pairs may share a frame (01; S.9: 02, item 1)
 
--- 7 is told exactly for pairs that are not in the table: on opening where the image is a good frame and both labels are known, on closing where the buffer has sixteen octets
+-- 7 is told exactly for pairs that are not in the table: on opening where the image is a good frame and both labels are known, on closing
+-- where the buffer has sixteen octets
 pub pair-refused : {image : List ℕ} {o : Opened} → Opens image o → length image ≡ 16 → goodFrame (bitAt image) ≡ true → isLabelled (firstWord image) ≡ true → isLabelled (secondWord image) ≡ true
     → (o ≡ Refused (numbered 7)) ↔ (pairOf (wordKind (firstWord image)) (wordKind (secondWord image)) ≡ false)
 pair-refused {image} x size good one two =
@@ -252,7 +256,8 @@ InRange m xs ys =
     → ((n : ℤ) → Nearest 750 (pos 750 *ℤ xOf (positionOf m) +ℤ sumZ xs) n → isStep n ≡ true)
     × ((n : ℤ) → Nearest 750 (pos 750 *ℤ yOf (positionOf m) +ℤ sumZ ys) n → isStep n ≡ true)
 
--- a relay is taken exactly if the image opens, the buffer has sixteen octets, each list has at most eight offsets, each from -6,144,000 to 6,144,000, and every nearest step is in range
+-- a relay is taken exactly if the image opens, the buffer has sixteen octets, each list has at most eight offsets, each from -6,144,000 to
+-- 6,144,000, and every nearest step is in range
 pub relay-exactly : {image : List ℕ} {xs ys : List ℤ} {buffer after : List ℕ} {r : Refusal} → Relays image xs ys buffer r after
     → (r ≡ numbered 0)
     ↔ ((openOf image ≡ Pair (firstMessage image) (secondMessage image))
@@ -266,7 +271,8 @@ pub relay-exactly : {image : List ℕ} {xs ys : List ℤ} {buffer after : List �
 relay-exactly {image} {xs} {ys} {buffer} x =
     (λ e. relays.relay-exactly image xs ys buffer .0 (sym (relayed x .0) ∙ e), λ w. relayed x .0 ∙ relays.relay-exactly image xs ys buffer .1 w)
 
--- a message m becomes n: each axis of its position is nearest to the exact sum in feet, a half away from zero, and all else is as it was; one without a position passes through
+-- a message m becomes n: each axis of its position is nearest to the exact sum in feet, a half away from zero, and all else is as it was;
+-- one without a position passes through
 abbrev pub Shifts : Message → List ℤ → List ℤ → Message → Type 0
 Shifts m xs ys n =
     (n ≡ placedAt m (xOf (positionOf n)) (yOf (positionOf n)))

@@ -1,6 +1,7 @@
--- DEMAND 3: a fresh receiver fed any run of levels hands over a frame at a level that is 0 or 1 exactly when the last 128 decoded bits are a good frame, and then that frame; at any
--- other level none. Each good frame is heard on its last bit, no two overlap, and swapping the two wires changes nothing. Over the calls' own contracts: `Fed ls s` is a chain of
--- `Receiver::fresh` and `Receiver::step`, fed the levels ls one after the other (crates/line/proofs/OfCalls.antt); `Steps s l h` is one step more. Assumes nothing.
+-- DEMAND 3: a fresh receiver fed any run of levels hands over a frame at a level that is 0 or 1 exactly when the last 128 decoded bits are
+-- a good frame, and then that frame; at any other level none. Each good frame is heard on its last bit, no two overlap, and swapping the
+-- two wires changes nothing. Over the calls' own contracts: `Fed ls s` is a chain of `Receiver::fresh` and `Receiver::step`, fed the levels
+-- ls one after the other (crates/line/proofs/OfCalls.antt); `Steps s l h` is one step more. Assumes nothing.
 use mathlib.Core.Path.{_≡_, refl, sym, ap, _∙_}
 use mathlib.Core.Bool.{Bool, true, false, not}
 use mathlib.Core.List.{List, [], _∷_, _++_, map}
@@ -18,12 +19,12 @@ use Rattle.refusal.specs.declared.Refusal.{Refusal}
 use Rattle.frame.specs.Frame.{goodFrame}
 use Rattle.line.specs.Levels.{refused, bitsOf, decoded}
 use Rattle.line.specs.Machine.{accepted, answerOf, refusedBy, heardOf, run}
-use Rattle.line.specs.Hearing.{lastFrame, endsGood, told, toldRefused, toldOf, swap}
+use Rattle.line.specs.Told.{lastFrame, endsGood, told, toldRefused, toldOf, swap}
 use Rattle.line.specs.Sending.{sendChecks, sendRefusal}
 use Rattle.line.specs.declared.Receiver.{Receiver}
 use Rattle.line.specs.declared.Heard.{Heard}
 use Rattle.octets.specs.Feeding.{fedTo}
-use Rattle.octets.specs.Hearing.{toldOctet}
+use Rattle.octets.specs.ToldOctets.{toldOctet}
 use Rattle.octets.specs.declared.OctetReceiver.{OctetReceiver}
 use Rattle.octets.specs.declared.HeardOctet.{HeardOctet}
 use Rattle.bits.proofs.TestLaws.{both-true, never-true, clash}
@@ -185,7 +186,8 @@ sent-heard {image} {previous} {buffer} {after} {ls} {s} {l} {h} x octets e f y =
 pub any-octets : (octets : List ℕ) → FedOctets octets (fedTo octets (length octets))
 any-octets = octet-calls.fed-octets-any
 
--- the whole answer is what the bits that have come say: the bit of 1 to 8 with which they end in a good frame and that frame, or no frame, bit 0 and sixteen zero octets
+-- the whole answer is what the bits that have come say: the bit of 1 to 8 with which they end in a good frame and that frame, or no frame,
+-- bit 0 and sixteen zero octets
 pub octets-demand3 : {octets : List ℕ} {s : OctetReceiver} {o : ℕ} {h : HeardOctet} → FedOctets octets s → Takes s o h → AreOctets (octets ++ o ∷ [])
     → h ≡ toldOctet (octets ++ o ∷ []) (length octets)
 octets-demand3 f (takes κs a h e p) small = octets-demand3-of-calls f κs e (a .1 .0) h small p

@@ -1,4 +1,5 @@
--- Small facts of 001 and 01 about frames, levels, octets and captures, in short tables, each proved by computation: so that a definition read wrongly is refused here, by name, even where code and proofs share the mistake. Assumes nothing.
+-- Small facts of 001 and 01 about frames, levels, octets and captures, in short tables, each proved by computation: so that a definition
+-- read wrongly is refused here, by name, even where code and proofs share the mistake. Assumes nothing.
 use mathlib.Core.Path.{_≡_, refl}
 use mathlib.Core.Bool.{true, false}
 use mathlib.Core.List.{List, [], _∷_, _++_, map}
@@ -9,10 +10,10 @@ use Rattle.bits.specs.Tests.{every}
 use Rattle.bits.specs.Numbers.{numOf, sumOf, tab}
 use Rattle.frame.specs.Frame.{goodFrame, verdictOf}
 use Rattle.line.specs.Machine.{holdsFrame}
-use Rattle.line.specs.Hearing.{swap}
+use Rattle.line.specs.Told.{swap}
 use Rattle.line.specs.Sending.{sendRefusal, sendLevels}
 use Rattle.line.specs.WrongLevel.{changedAt, onTheLine, refusalAt}
-use Rattle.octets.specs.Feeding.{taken, lastOf, endBit, fedTo}
+use Rattle.octets.specs.Feeding.{taken, lastThat, endBit, fedTo}
 use Rattle.capture.specs.Search.{goodAt, firstGood, searchRefusal, searchOf}
 use Rattle.message.specs.declared.Message.the-variants as m
 use Rattle.pair.specs.Pairs.{pairOf}
@@ -52,7 +53,8 @@ pub sending-hold : answers sending ≡ expected sending
 unfolding answer every sumOf tab sendRefusal sendLevels
 sending-hold = refl
 
--- hearing: the fresh receiver given a level and then those of an image hands it over on the last; where there is no frame the octets are zero
+-- hearing: the fresh receiver given a level and then those of an image hands it over on the last; where there is no frame the octets are
+-- zero
 abbrev pub hearing : List Row
 hearing =
     (hear-after (0 ∷ take 127 levelsT0) (getD levelsT0 127 0) ⇒ told 0 0 (heard true imageT))
@@ -67,8 +69,8 @@ pub hearing-hold : answers hearing ≡ expected hearing
 unfolding answer every sumOf goodFrame holdsFrame
 hearing-hold = refl
 
--- wrong levels (02, item 7): P sent after 0, with that level before it, as it is; with level 16 changed; with 36 and 44 changed; with all from 16 on
--- changed, the wires swapped there
+-- wrong levels (02, item 7): P sent after 0, with that level before it, as it is; with level 16 changed; with 36 and 44 changed; with all
+-- from 16 on changed, the wires swapped there
 abbrev lineP : List ℕ
 lineP = digits "000000000100001110000000011111111000000001111111100000000111111110000000011111111000000001111111100000000111111110000000011010010"
 
@@ -92,7 +94,8 @@ imageNext = 0 ∷ 0xc5 ∷ replicate 13 0x80 ++ 0xbb ∷ []
 abbrev hear-line : List ℕ → Asked
 hear-line line = hear-after (take 128 line) (getD line 128 0)
 
--- one wrong level is heard as nothing; two may pass, and so may the wires swapped within a frame: another good frame is heard, and a legal pair
+-- one wrong level is heard as nothing; two may pass, and so may the wires swapped within a frame: another good frame is heard, and a legal
+-- pair
 abbrev pub wrongs : List Row
 wrongs =
     (hear-line lineP ⇒ told 0 0 (heard true imageP))
@@ -121,8 +124,8 @@ pub refusals-are :
 unfolding tab
 refusals-are = refl
 
--- hearing by octets (02, item 5): most significant bit first; the bit from 1 to 8; where there is no frame 0 and zero octets; bits before the
--- first octet never count
+-- hearing by octets (02, item 5): most significant bit first; the bit from 1 to 8; where there is no frame 0 and zero octets; bits before
+-- the first octet never count
 abbrev pub feeding : List Row
 feeding =
     (hear-octets imageT ⇒ told 0 0 (heard-at true 8 imageT))
@@ -133,7 +136,7 @@ feeding =
     ∷ []
 
 pub feeding-hold : answers feeding ≡ expected feeding
-unfolding answer every sumOf goodFrame holdsFrame taken lastOf endBit fedTo
+unfolding answer every sumOf goodFrame holdsFrame taken lastThat endBit fedTo
 feeding-hold = refl
 
 -- searching: the first bit of a capture has position 0; 65,536 octets are searched, one more is too long

@@ -1,4 +1,5 @@
--- Small facts of 001 and 01 about messages, in short tables, each proved by computation: so that a definition read wrongly is refused here, by name, even where code and proofs share the mistake. Assumes nothing.
+-- Small facts of 001 and 01 about messages, in short tables, each proved by computation: so that a definition read wrongly is refused here,
+-- by name, even where code and proofs share the mistake. Assumes nothing.
 use mathlib.Core.Path.{_≡_, refl}
 use mathlib.Core.List.{List, [], _∷_, _++_, map}
 use Prim.Native.Nat.{ℕ}
@@ -16,7 +17,7 @@ use Rattle.message.specs.declared.Message.the-variants as m
 use Rattle.pair.specs.Pairs.{pairOf}
 use Rattle.pair.specs.Opening.{openRefusal, openOf}
 use Rattle.pair.specs.Closing.{closeRefusal, closeImage}
-use Rattle.pair.specs.Zeroed.{zeroedImage}
+use Rattle.pair.specs.ZeroedImage.{zeroedImage}
 use Rattle.link1.proofs.Asking.{open-image, kind-named, close-pair}
 use Rattle.link1.proofs.Asking.{nothing, pair, buffer, value, told, toldBit, answer, Row, _⇒_, answers, expected, track, at}
 use Rattle.link1.proofs.Examples.{imageT}
@@ -80,8 +81,8 @@ pub opening-hold : answers opening ≡ expected opening
 unfolding answer every numOf sumOf agreeing openRefusal openOf pairOf
 opening-hold = refl
 
--- closing: 2, 7, 14 or 15 first, 14 or 15 second, each told before the next, and the buffer left; of an S.5 a number too wide at bit 7 before a
--- code that is not used at 16, that code before a number too wide at 29, and a strength that is too wide, whatever its bits
+-- closing: 2, 7, 14 or 15 first, 14 or 15 second, each told before the next, and the buffer left; of an S.5 a number too wide at bit 7
+-- before a code that is not used at 16, that code before a number too wide at 29, and a strength that is too wide, whatever its bits
 abbrev pub closing : List Row
 closing =
     (close-pair far m.S0 (fives 15) ⇒ told 2 0 (buffer (fives 15)))

@@ -1,4 +1,5 @@
--- Small facts of 01 and 02 about texts and the relay, in short tables, each proved by computation: so that a definition read wrongly is refused here, by name, even where code and proofs share the mistake. Assumes nothing.
+-- Small facts of 01 and 02 about texts and the relay, in short tables, each proved by computation: so that a definition read wrongly is
+-- refused here, by name, even where code and proofs share the mistake. Assumes nothing.
 use mathlib.Core.Path.{_≡_, refl}
 use mathlib.Core.List.{List, [], _∷_, map}
 use lib.IntN.{pos, negsuc, negℤ}
@@ -38,8 +39,8 @@ pub texts-hold : answers texts ≡ expected texts
 unfolding answer every trackRefusal trackedOf textRefusal textAfter
 texts-hold = refl
 
--- relaying (02, item 6): S.4 with S.8, S.4+ with S.5, S.8+ with S.3 and two corners, each position moved by 1125 and -1125 feet; the digits of absent modes are
--- gone, also where nothing moves; pairs without a position pass through, whatever the sums
+-- relaying (02, item 6): S.4 with S.8, S.4+ with S.5, S.8+ with S.3 and two corners, each position moved by 1125 and -1125 feet; the digits
+-- of absent modes are gone, also where nothing moves; pairs without a position pass through, whatever the sums
 abbrev pub relaying : List Row
 relaying =
     (relay-by imageAB (pos 1125 ∷ []) (negsuc 1124 ∷ []) (fives 16) ⇒ told 0 0 (buffer relayedAB))
@@ -56,8 +57,8 @@ pub relaying-hold : answers relaying ≡ expected relaying
 unfolding answer every numOf sumOf tab octetsOf agreeing imageOf pairOf openRefusal relayRefusal relayImage messageWord areOffsets within sumZ near
 relaying-hold = refl
 
--- relaying: opening's refusals, 2 on the buffer, 2 X, 2 Y, 9 on X offsets, 9 on Y offsets, 9 on the first message's X and Y, 9 on the second's, each told before the
--- next, and the buffer left; the lists also where nothing has a position; offsets reach from -6,144,000
+-- relaying: opening's refusals, 2 on the buffer, 2 X, 2 Y, 9 on X offsets, 9 on Y offsets, 9 on the first message's X and Y, 9 on the
+-- second's, each told before the next, and the buffer left; the lists also where nothing has a position; offsets reach from -6,144,000
 abbrev pub relay-orders : List Row
 relay-orders =
     (relay-by (1 ∷ drop 1 imageT) nine nine (fives 15) ⇒ told 3 0 (buffer (fives 15)))

@@ -185,8 +185,9 @@ imageEdge = 0 ∷ 0xc4 ∷ 0x80 ∷ 0x80 ∷ 0x80 ∷ 0x80 ∷ 0x80 ∷ 0x80 ∷
 abbrev pub imageCross : List ℕ
 imageCross = 0 ∷ 0xc4 ∷ 0x80 ∷ 0x80 ∷ 0x80 ∷ 0x80 ∷ 0xbf ∷ 0xfe ∷ 0xd4 ∷ 0x80 ∷ 0x80 ∷ 0x9f ∷ 0xff ∷ 0x80 ∷ 0x80 ∷ 0xcf ∷ []
 
--- an image of two messages' octets and a check group; a message that is but a label; an S.5 of strength 1; an S.6 of elevation 13;
--- an S.9 with spare bit 20 or 9; an S.3 with spare bit 8 and request 1, and one with request 1 and spare bits 29 and 30; a Blank with bits 30 and 49
+-- an image of two messages' octets and a check group; a message that is but a label; an S.5 of strength 1; an S.6 of elevation 13; an S.9
+-- with spare bit 20 or 9; an S.3 with spare bit 8 and request 1, and one with request 1 and spare bits 29 and 30; a Blank with bits 30 and
+-- 49
 abbrev pub image : List ℕ → List ℕ → ℕ → List ℕ
 image first second check = 0 ∷ first ++ second ++ check ∷ []
 

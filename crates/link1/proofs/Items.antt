@@ -1,5 +1,5 @@
--- THE CHANGE REQUESTS (02, items 1 to 7): what is not already in Orders, Demand1, Demand2 and Demand3, over the calls' own contracts (Calls.antt), each law with its whole statement.
--- Assumes nothing.
+-- THE CHANGE REQUESTS (02, items 1 to 7): what is not already in Orders, Demand1, Demand2 and Demand3, over the calls' own contracts
+-- (Calls.antt), each law with its whole statement. Assumes nothing.
 use mathlib.Core.Path.{_≡_, refl, sym, ap, ap₂, _∙_}
 use mathlib.Core.Bool.{true, false}
 use mathlib.Core.List.{List, [], _∷_, _++_, List·Permᴰ}
@@ -30,7 +30,7 @@ use Rattle.units.specs.Offsets.{sumZ}
 use Rattle.units.specs.Nearest.{OddMultiple}
 use Rattle.line.specs.Levels.{decoded}
 use Rattle.line.specs.Machine.{heardOf, run}
-use Rattle.line.specs.Hearing.{lastFrame, swap}
+use Rattle.line.specs.Told.{lastFrame, swap}
 use Rattle.line.specs.Sending.{sendLevels}
 use Rattle.line.specs.WrongLevel.{changedAt, wrongBits, refusalAt, passTogether}
 use Rattle.line.specs.declared.Receiver.{Receiver}
@@ -39,7 +39,7 @@ use Rattle.octets.specs.Feeding.{endsAt, heardAt}
 use Rattle.octets.specs.declared.OctetReceiver.{OctetReceiver}
 use Rattle.octets.specs.declared.HeardOctet.{HeardOctet}
 use Rattle.pair.specs.Opening.{wordKind, firstWord, secondWord}
-use Rattle.pair.specs.Zeroed.{zeroedImage}
+use Rattle.pair.specs.ZeroedImage.{zeroedImage}
 use Rattle.pair.specs.declared.Opened.{Opened}
 use Rattle.pair.specs.declared.Opened.the-variants.{Pair, Refused}
 use Rattle.shift.specs.Positions.{positionOf, isSomewhere, xOf, yOf}
@@ -82,8 +82,8 @@ digits-ignored {image} j e o p = opened o ∙ digits.digits-ignored image (sym (
 
 -- ---- item 4: the cause and the lowest bit number where the trouble begins; if there are several, the lowest bit wins. The first message is told before the second
 
--- troubles begin as P says in the first message and as Q says in the second: the trouble told, of cause c at bit b of message `place`, is one of these and none begins at a lower bit
--- of its message; where the second message is told, none begins in the first
+-- troubles begin as P says in the first message and as Q says in the second: the trouble told, of cause c at bit b of message `place`, is
+-- one of these and none begins at a lower bit of its message; where the second message is told, none begins in the first
 abbrev pub IsLowest : (Cause → ℕ → Type 0) → (Cause → ℕ → Type 0) → ℕ → Cause → ℕ → Type 0
 IsLowest P Q place c b =
     ((place ≡ 1) × (P c b × ((d : Cause) (e : ℕ) → P d e → b ≤ e)))
@@ -111,8 +111,9 @@ pub at-most-one : (s : OctetReceiver) (o : ℕ) → s .window .older < 2 ^ 64 �
     → (j k : ℕ) → j ≤ 8 → k ≤ 8 → endsAt (s .window) o j ≡ true → endsAt (s .window) o k ≡ true → j ≡ k
 at-most-one s o = answers.at-most-one (s .window) o
 
--- THE EQUALITY: over any run of octets, and any levels that decode to the bits of these octets and then the first j bits of the next, the first receiver hands over a frame at its last level
--- exactly if the octet receiver hands one over at bit j, and then both hand over the same sixteen octets
+-- THE EQUALITY: over any run of octets, and any levels that decode to the bits of these octets and then the first j bits of the next, the
+-- first receiver hands over a frame at its last level exactly if the octet receiver hands one over at bit j, and then both hand over the
+-- same sixteen octets
 pub equality : {ls octets : List ℕ} {s : Receiver} {t : OctetReceiver} {l o : ℕ} {h : Heard} {g : HeardOctet} → Fed ls s → Steps s l h → FedOctets octets t → Takes t o g
     → AreOctets (octets ++ o ∷ []) → (j : ℕ) → l ≤ 1 → 1 ≤ j → j ≤ 8 → decoded (ls ++ l ∷ []) ≡ tab (λ i. bitAt (octets ++ o ∷ []) (i + 1)) (8 * length octets + j)
     → ((h .frame ≡ true) ↔ ((g .frame ≡ true) × (g .bit ≡ j))) × (h .frame ≡ true → h .image ≡ g .image)
@@ -157,8 +158,8 @@ pub relay-zeroed : {image : List ℕ} {xs ys : List ℤ} {buffer after : List �
 relay-zeroed {image} {xs} {ys} {buffer} x =
     ap zeroedImage (relayed x .1) ∙ relay.relay-zeroed image xs ys buffer (sym (relayed x .0)) ∙ sym (relayed x .1)
 
--- there and back, for each axis: a relay by offsets with sum d and then by one offset of -d gives back the position of both messages, if neither relay is refused and d is no odd
--- multiple of 375, whatever the other axis does
+-- there and back, for each axis: a relay by offsets with sum d and then by one offset of -d gives back the position of both messages, if
+-- neither relay is refused and d is no odd multiple of 375, whatever the other axis does
 module _ {image there back : List ℕ} {xs ys us vs : List ℤ} {buffer buffer′ : List ℕ}
     (x : Relays image xs ys buffer (numbered 0) there) (y : Relays there us vs buffer′ (numbered 0) back) where
   taken-back : relayRefusal (relayImage image xs ys buffer) us vs buffer′ ≡ numbered 0

@@ -1,6 +1,6 @@
--- THE ORDERS OF CHECKS (01, 'Orders of checks'; 02, items 4 and 6), each call's on one line: number and place of each check, for every input. `n at p` is number n at place p, `12 to 14 at 1` one
--- of these numbers at place 1. Of each call, over its own contract: its checks stand in this order, the first that is not passed is told, and nothing but success or one of these is
--- ever told. Assumes nothing.
+-- THE ORDERS OF CHECKS (01, 'Orders of checks'; 02, items 4 and 6), each call's on one line: number and place of each check, for every
+-- input. `n at p` is number n at place p, `12 to 14 at 1` one of these numbers at place 1. Of each call, over its own contract: its checks
+-- stand in this order, the first that is not passed is told, and nothing but success or one of these is ever told. Assumes nothing.
 use mathlib.Core.Path.{_≡_, refl, ap, _∙_}
 use mathlib.Core.Bool.{Bool, true, false, not}
 use mathlib.Core.List.{List, [], _∷_}
@@ -40,7 +40,8 @@ use Rattle.pair.proofs.FirstTrouble.{open-numbers, close-numbers}
 use Rattle.relay.proofs.Theorems.{relay-numbers}
 use Rattle.link1.proofs.Calls.{Judges, judged, Opens, opened, Closes, closed, Relays, relayed, Steps, stepped, Sends, sent, Searches, searched, Climbs, climbed, Names, named, Spells, spelled, Numbers, numbered-as}
 
--- the checks stand in the order, where what is wrong inside a message has the numbers lo to hi; the refusal is that of the first that is not passed, and is success or stands in the order
+-- the checks stand in the order, where what is wrong inside a message has the numbers lo to hi; the refusal is that of the first that is
+-- not passed, and is success or stands in the order
 pub record Tells (lo hi : ℕ) (checks : List Check) (order : List Step) (r : Refusal) : Type 0 where
   pub stand : inOrder lo hi checks order ≡ true
   pub first : r ≡ firstRefusal checks
@@ -60,11 +61,11 @@ verdict-order {image} j = tells 12 14 (imageChecks image) _ refl tt (judged j)
 -- ---- open an image: 2, 3, 4, 5, 6 first message, 6 second, 7, 12 to 14 first, 12 to 14 second
 
 pub open-order : {image : List ℕ} {o : Opened} → Opens image o
-    → Tells 12 14 (opening.openChecks image) (2 at 0 ∷ 3 at 0 ∷ 4 at 0 ∷ 5 at 0 ∷ 6 at 1 ∷ 6 at 2 ∷ 7 at 0 ∷ 12 to 14 at 1 ∷ 12 to 14 at 2 ∷ []) (opening.refusalOf o)
+    → Tells 12 14 (opening.openChecks image) (2 at 0 ∷ 3 at 0 ∷ 4 at 0 ∷ 5 at 0 ∷ 6 at 1 ∷ 6 at 2 ∷ 7 at 0 ∷ 12 to 14 at 1 ∷ 12 to 14 at 2 ∷ []) (opening.refusalInOpened o)
 unfolding opening.openOf opening.openRefusal
 open-order {image} o =
     tells 12 14 (opening.openChecks image) _ refl (open-numbers image)
-    (ap opening.refusalOf (opened o) ∙ answer-tells O.Refused _ opening.refusalOf (opening.openChecks image) refl (λ r. refl) refl)
+    (ap opening.refusalInOpened (opened o) ∙ answer-tells O.Refused _ opening.refusalInOpened (opening.openChecks image) refl (λ r. refl) refl)
 
 -- ---- close a pair into a buffer: 2, 7, 14 or 15 first, 14 or 15 second
 
@@ -83,11 +84,11 @@ send-order {image} {previous} {buffer} s = tells 12 14 (sendChecks image previou
 -- ---- search a capture: 2, 9, 10
 
 pub search-order : {capture : List ℕ} {start : ℕ} {f : Found} → Searches capture start f
-    → Tells 12 14 (searching.searchChecks capture start) (2 at 0 ∷ 9 at 0 ∷ 10 at 0 ∷ []) (searching.refusalOf f)
+    → Tells 12 14 (searching.searchChecks capture start) (2 at 0 ∷ 9 at 0 ∷ 10 at 0 ∷ []) (searching.refusalInFound f)
 unfolding searching.searchOf searching.searchRefusal
 search-order {capture} {start} f =
     tells 12 14 (searching.searchChecks capture start) _ refl tt
-    (ap searching.refusalOf (searched f) ∙ answer-tells F.Refused _ searching.refusalOf (searching.searchChecks capture start) refl (λ r. refl) refl)
+    (ap searching.refusalInFound (searched f) ∙ answer-tells F.Refused _ searching.refusalInFound (searching.searchChecks capture start) refl (λ r. refl) refl)
 
 -- ---- relay an image: opening's in their order, 2 on the output buffer, 2 X, 2 Y, 9 on X offsets, 9 on Y offsets, 9 on the first message's X and Y, 9 on the second's
 
@@ -105,19 +106,19 @@ pub text-order : {number : ℕ} {buffer after : List ℕ} {r : Refusal} → Spel
 unfolding texts.textRefusal
 text-order {number} {buffer} s = tells 12 14 (texts.textChecks number buffer) _ refl tt (spelled s .0)
 
-pub number-order : {text : List ℕ} {t : Tracked} → Numbers text t → Tells 12 14 (texts.trackChecks text) (2 at 0 ∷ 9 at 0 ∷ []) (texts.refusalOf t)
+pub number-order : {text : List ℕ} {t : Tracked} → Numbers text t → Tells 12 14 (texts.trackChecks text) (2 at 0 ∷ 9 at 0 ∷ []) (texts.refusalInTracked t)
 unfolding texts.trackedOf texts.trackRefusal
 number-order {text} t =
     tells 12 14 (texts.trackChecks text) _ refl tt
-    (ap texts.refusalOf (numbered-as t) ∙ answer-tells T.Refused _ texts.refusalOf (texts.trackChecks text) refl (λ r. refl) refl)
+    (ap texts.refusalInTracked (numbered-as t) ∙ answer-tells T.Refused _ texts.refusalInTracked (texts.trackChecks text) refl (λ r. refl) refl)
 
 -- ---- feet to altitude: 9; a level: 1; a label alone: 6 (ours: docs/CONTRACTS.md, 'Exemptions')
 
-pub altitude-order : {feet : ℤ} {h : Height} → Climbs feet h → Tells 12 14 (heights.heightChecks feet) (9 at 0 ∷ []) (heights.refusalOf h)
+pub altitude-order : {feet : ℤ} {h : Height} → Climbs feet h → Tells 12 14 (heights.heightChecks feet) (9 at 0 ∷ []) (heights.refusalInHeight h)
 unfolding heights.heightOf heights.heightRefusal
 altitude-order {feet} h =
     tells 12 14 (heights.heightChecks feet) _ refl tt
-    (ap heights.refusalOf (climbed h) ∙ answer-tells H.Refused _ heights.refusalOf (heights.heightChecks feet) refl (λ r. refl) refl)
+    (ap heights.refusalInHeight (climbed h) ∙ answer-tells H.Refused _ heights.refusalInHeight (heights.heightChecks feet) refl (λ r. refl) refl)
 
 pub level-order : {s : Receiver} {level : ℕ} {h : Heard} → Steps s level h → Tells 12 14 (check (not (refused level)) badLevel ∷ []) (1 at 0 ∷ []) (h .refusal)
 level-order {s} {level} h =
@@ -127,8 +128,8 @@ level-order {s} {level} h =
     by true = refl
     by false = refl
 
-pub label-order : {label : ℕ} {n : Named} → Names label n → Tells 12 14 (labels.nameChecks label) (6 at 0 ∷ []) (labels.refusalOf n)
+pub label-order : {label : ℕ} {n : Named} → Names label n → Tells 12 14 (labels.nameChecks label) (6 at 0 ∷ []) (labels.refusalInNamed n)
 unfolding labels.namedOf labels.nameRefusal
 label-order {label} n =
     tells 12 14 (labels.nameChecks label) _ refl tt
-    (ap labels.refusalOf (named n) ∙ answer-tells N.Refused _ labels.refusalOf (labels.nameChecks label) refl (λ r. refl) refl)
+    (ap labels.refusalInNamed (named n) ∙ answer-tells N.Refused _ labels.refusalInNamed (labels.nameChecks label) refl (λ r. refl) refl)

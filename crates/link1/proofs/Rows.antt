@@ -31,7 +31,7 @@ use Rattle.message.specs.Codec.{contentTrouble, messageWord}
 use Rattle.message.specs.declared.Message.{Message}
 use Rattle.message.specs.declared.Message.the-variants as m
 use Rattle.frame.specs.Words.{imageOf}
-use Rattle.pair.specs.Zeroed.{zeroedImage, Clear}
+use Rattle.pair.specs.ZeroedImage.{zeroedImage, Clear}
 use Rattle.bits.proofs.TestLaws.{clash}
 use Rattle.units.proofs.Nearest.{near-nearest, nearest-is}
 use Rattle.message.proofs.FirstTrouble.{content-first}

@@ -1,5 +1,5 @@
--- TWO WRONG LEVELS: how far the argument reaches (02, item 7). Of a good frame as sent, with the level before it, change two of the 129 levels: the 128 bits decoded at that place are a good
--- frame exactly if the two pass together. Assumes nothing.
+-- TWO WRONG LEVELS: how far the argument reaches (02, item 7). Of a good frame as sent, with the level before it, change two of the 129
+-- levels: the 128 bits decoded at that place are a good frame exactly if the two pass together. Assumes nothing.
 use mathlib.Core.Path.{_≡_, refl, sym, ap, ap₂, _∙_}
 use mathlib.Core.Bool.{Bool, true, false, not}
 use mathlib.Core.List.{List, []}
@@ -13,7 +13,7 @@ use Rattle.bits.specs.Numbers.{sumOf}
 use Rattle.bits.specs.Octets.{bitAt}
 use Rattle.refusal.specs.Refusals.{numbered, success}
 use Rattle.frame.specs.Frame.{startGood, marksGood, columnOf, checksGood, goodFrame, verdictOf}
-use Rattle.line.specs.Hearing.{lastFrame}
+use Rattle.line.specs.Told.{lastFrame}
 use Rattle.line.specs.WrongLevel.{changedAt, onTheLine, wrongBits, twoWrongBits, turned, beside, passTogether}
 use Rattle.bits.proofs.TestLaws.{agree-is, every-ext, every-at}
 use Rattle.bits.proofs.OctetLaws.{bit-lt}

@@ -1,6 +1,6 @@
--- WHAT IS TOLD OF A MESSAGE IS ITS FIRST TROUBLE (02, item 4): of a word of any kind, and of the values of any message. No trouble begins at a lower
--- bit, said of every field and without going up the layout (`Begins`, `Misfits`, `IsFirst`: bits/specs/Begins.antt); the bit is one of 7 to 49; and
--- where nothing is told, no trouble begins. Assumes nothing.
+-- WHAT IS TOLD OF A MESSAGE IS ITS FIRST TROUBLE (02, item 4): of a word of any kind, and of the values of any message. No trouble begins
+-- at a lower bit, said of every field and without going up the layout (`Begins`, `Misfits`, `IsFirst`: bits/specs/Begins.antt); the bit is
+-- one of 7 to 49; and where nothing is told, no trouble begins. Assumes nothing.
 use mathlib.Core.Path.{_≡_, sym, subst}
 use Prim.Native.Nat.{ℕ, _+_, _^_, _<_}
 use native.Mathlib.Omega.{arith}

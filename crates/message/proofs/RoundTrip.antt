@@ -1,5 +1,5 @@
--- The two round trips of a message: what is read is written as it was, with the codes of absent modes zeroed, and what is written is read as it
--- was. Assumes nothing.
+-- The two round trips of a message: what is read is written as it was, with the codes of absent modes zeroed, and what is written is read
+-- as it was. Assumes nothing.
 use mathlib.Core.Path.{_≡_, refl, sym, ap, ap₂, subst, _∙_}
 use mathlib.Core.Bool.{Bool, true, false}
 use mathlib.Core.List.{List, [], _∷_}
@@ -20,7 +20,7 @@ use Rattle.kind.specs.Layouts.{labelOf, layoutOf, wholeOf, allKinds, iffLayout}
 use Rattle.message.specs.Messages.{modeOf, presenceOf, codeOf, iffFrom, iffParts, madeOf, kindOf, partsOf}
 use Rattle.kind.specs.Labels.{kindFrom, labelledOf, kindNamed}
 use Rattle.message.specs.Codec.{contentTrouble, messageIn, messageTrouble, messageWord}
-use Rattle.message.specs.Zeroed.{isIff, zeroedBit}
+use Rattle.message.specs.ZeroedMessage.{isIff, zeroedBit}
 use Rattle.kind.specs.declared.Kind.{Kind}
 use Rattle.kind.specs.declared.Kind.the-variants.{Blank, S0, S3, S4, S4Plus, S5, S6, S8, S8Plus, S9}
 use Rattle.message.specs.declared.Mode.{Mode}

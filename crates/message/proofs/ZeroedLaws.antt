@@ -15,7 +15,7 @@ use Rattle.bits.specs.declared.Cause.the-variants.{Spare, Unused}
 use Rattle.bits.specs.declared.Trouble.the-variants.{Nothing, Wrong}
 use Rattle.kind.specs.Layouts.{iffLayout}
 use Rattle.message.specs.Messages.{modeOf, presenceOf, codeOf, iffFrom, iffParts}
-use Rattle.message.specs.Zeroed.{presenceBit, isIff, isAbsent, isUnread, zeroedBit, NoDigits}
+use Rattle.message.specs.ZeroedMessage.{presenceBit, isIff, isAbsent, isUnread, zeroedBit, NoDigits}
 use Rattle.bits.proofs.TestLaws.{both-true, both-false, every-at, rule-at}
 use Rattle.bits.proofs.NumberLaws.{num-lt, num-ext, num-field, num-bit, num-zero}
 
@@ -130,8 +130,8 @@ module _ (b : ℕ → ℕ) (bits : (i : ℕ) → b i < 2) where
 
   module _ (iff : isIff b ≡ true) where
     -- a bit of a code, by its presence bit p
-    inside : (i p n : ℕ) → presenceBit i ≡ p → 1 ≤ p → b p ≡ n → zeroedBit b i ≡ pick (eqb n 0) 0 (b i)
-    inside i p n e h v =
+    in-code : (i p n : ℕ) → presenceBit i ≡ p → 1 ≤ p → b p ≡ n → zeroedBit b i ≡ pick (eqb n 0) 0 (b i)
+    in-code i p n e h v =
         ap₂ (λ (s : Bool) (p : ℕ). pick (both s (isAbsent b p)) 0 (b i)) iff e ∙ rw (ne-eqb p 0 (λ z. omega arith)) (ap (λ (n : ℕ). pick (eqb n 0) 0 (b i)) v)
 
     -- a code is that of the mode as it was read, by the presence bit q + 1
@@ -144,7 +144,7 @@ module _ (b : ℕ → ℕ) (bits : (i : ℕ) → b i < 2) where
         code-by : (n : ℕ) → b (q + 1) ≡ n → fieldOf zeroed at width ≡ numOf (λ i. pick (eqb n 0) 0 (b (at + i + 1))) width
         code-by n e =
             zeroed-field at width (λ i. pick (eqb n 0) 0 (b (at + i + 1))) h
-            (λ i l. inside (at + i + 1) (q + 1) n (rule-at (λ i. presenceBit (at + i + 1)) (λ i. q + 1) width code i l) (omega arith) e)
+            (λ i l. in-code (at + i + 1) (q + 1) n (rule-at (λ i. presenceBit (at + i + 1)) (λ i. q + 1) width code i l) (omega arith) e)
 
         go : (n : ℕ) → n < 2 → b (q + 1) ≡ n → fieldOf zeroed at width ≡ codeOf (modeOf (eqb n 1) (fieldOf came at width))
         go zero _ e = code-by 0 e ∙ num-zero width

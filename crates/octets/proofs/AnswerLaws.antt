@@ -15,23 +15,23 @@ use Rattle.bits.proofs.TestLaws.{by-lt, never-true}
 use Rattle.frame.proofs.FrameLaws.{good-ext, apart}
 use Rattle.frame.proofs.LeadLaws.{lead-is}
 use Rattle.line.proofs.WindowLaws.{low-self}
-use Rattle.octets.specs.Feeding.{taken, endsAt, lastOf, endBit, answerAt}
-use Rattle.octets.specs.Steps.{leadOf, nothingHeard, heardAs}
+use Rattle.octets.specs.Feeding.{taken, endsAt, lastThat, endBit, answerAt}
+use Rattle.octets.specs.OctetSteps.{leadOf, nothingHeard, heardAs}
 use Rattle.octets.proofs.TakeLaws.{seventeen, taken-bit}
 
 -- ---- the last that passes
 
-last-none : (f : ℕ → Bool) (n : ℕ) → ((k : ℕ) → 1 ≤ k → k ≤ n → f k ≡ false) → lastOf f n ≡ 0
-unfolding lastOf
+last-none : (f : ℕ → Bool) (n : ℕ) → ((k : ℕ) → 1 ≤ k → k ≤ n → f k ≡ false) → lastThat f n ≡ 0
+unfolding lastThat
 last-none f zero h = refl
 last-none f (suc n) h = rw (h (suc n) (omega arith) (omega arith)) (last-none f n (λ k a b. h k a (omega arith)))
 
-last-le : (f : ℕ → Bool) (n : ℕ) → lastOf f n ≤ n
-unfolding lastOf
+last-le : (f : ℕ → Bool) (n : ℕ) → lastThat f n ≤ n
+unfolding lastThat
 last-le f zero = omega arith
 last-le f (suc n) = go (f (suc n)) (last-le f n)
   where
-    go : (t : Bool) → lastOf f n ≤ n → pick t (suc n) (lastOf f n) ≤ suc n
+    go : (t : Bool) → lastThat f n ≤ n → pick t (suc n) (lastThat f n) ≤ suc n
     go true h = omega arith
     go false h = omega arith
 
@@ -40,18 +40,18 @@ unfolding endBit
 bit-le w o = last-le (endsAt w o) 8
 
 -- where only j can pass
-last-one : (f : ℕ → Bool) (n j : ℕ) → 1 ≤ j → j ≤ n → ((k : ℕ) → 1 ≤ k → k ≤ n → (k ≡ j → ⊥) → f k ≡ false) → lastOf f n ≡ pick (f j) j 0
-unfolding lastOf
+last-one : (f : ℕ → Bool) (n j : ℕ) → 1 ≤ j → j ≤ n → ((k : ℕ) → 1 ≤ k → k ≤ n → (k ≡ j → ⊥) → f k ≡ false) → lastThat f n ≡ pick (f j) j 0
+unfolding lastThat
 last-one f zero j a b h = absurd (omega arith)
 last-one f (suc n) j a b h =
     by-lt n j
     (λ last.
     let e : suc n ≡ j = omega arith in
-    let z : lastOf f n ≡ 0 = last-none f n (λ k p q. h k p (omega arith) (λ x. omega arith)) in
+    let z : lastThat f n ≡ 0 = last-none f n (λ k p q. h k p (omega arith) (λ x. omega arith)) in
     ap (λ (m : ℕ). pick (f (suc n)) (suc n) m) z ∙ ap (λ (m : ℕ). pick (f m) m 0) e)
     (λ before.
     let e : f (suc n) ≡ false = h (suc n) (omega arith) (omega arith) (λ x. omega arith) in
-    ap (λ (t : Bool). pick t (suc n) (lastOf f n)) e ∙ last-one f n j a before (λ k p q. h k p (omega arith)))
+    ap (λ (t : Bool). pick t (suc n) (lastThat f n)) e ∙ last-one f n j a before (λ k p q. h k p (omega arith)))
 
 module _ (w : Window) (o : ℕ) (a : w .older < 2 ^ 64) (b : w .newer < 2 ^ 64) (octet : o < 256) where
   -- a good frame that ends at bit j begins at position j of the seventeen octets

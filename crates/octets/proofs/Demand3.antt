@@ -14,7 +14,7 @@ use Rattle.bits.specs.Octets.{AreOctets, bitAt, octetsOf}
 use Rattle.frame.specs.Frame.{goodFrame, frameAt}
 use Rattle.line.specs.Levels.{bitsOf, decoded}
 use Rattle.line.specs.Machine.{windowImage}
-use Rattle.line.specs.Hearing.{lastFrame, endsGood, toldBy}
+use Rattle.line.specs.Told.{lastFrame, endsGood, handedFrom}
 use Rattle.line.specs.Sending.{next, levelsAfter}
 use Rattle.line.specs.declared.Handed.{Handed}
 use Rattle.line.specs.declared.Window.{Window}
@@ -23,10 +23,10 @@ use Rattle.bits.proofs.NumberLaws.{length-tab, getD-tab, tab-more}
 use Rattle.bits.proofs.OctetLaws.{bit-lt, octets-ext}
 use Rattle.frame.proofs.FrameLaws.{good-ext, apart}
 use Rattle.line.proofs.WindowLaws.{Bits, more, bits-tab}
-use Rattle.line.proofs.LevelLaws.{lastOf, kept-all, bits-last, told-bits, levels-bits, levels-snoc}
+use Rattle.line.proofs.LevelLaws.{lastLevel, kept-all, bits-last, told-bits, levels-bits, levels-snoc}
 use Rattle.line.proofs.Demand3.{demand3}
 use Rattle.octets.specs.Feeding.{taken, endBit, answerAt, fedTo, heardAt}
-use Rattle.octets.specs.Hearing.{firstBits, firstFrom, goodBit, toldFrame, octetWith, toldOctet, handedBy, framedAt, handedAt}
+use Rattle.octets.specs.ToldOctets.{firstBits, firstFrom, goodBit, toldFrame, octetWith, toldOctet, handedBy, framedAt, handedAt}
 use Rattle.octets.specs.declared.HeardOctet.{HeardOctet}
 use Rattle.octets.proofs.AnswerLaws.{bit-le}
 use Rattle.octets.proofs.Equality.{equality}
@@ -39,7 +39,7 @@ module _ (octets : List ℕ) (n : ℕ) where
   levels = 0 ∷ levelsAfter 0 (firstBits octets n)
 
   abbrev last : ℕ
-  last = next (lastOf 0 (levelsAfter 0 (firstBits octets n))) (bitAt octets (n + 1))
+  last = next (lastLevel 0 (levelsAfter 0 (firstBits octets n))) (bitAt octets (n + 1))
 
   all-levels : levels ++ last ∷ [] ≡ 0 ∷ levelsAfter 0 (firstBits octets (suc n))
   all-levels =
@@ -80,7 +80,7 @@ ends-at octets n =
 
 module _ (octets : List ℕ) (small : AreOctets octets) where
   -- At bit j of octet k the receiver hands over a frame exactly when the bits that have come end in a good one, and then that one.
-  pub octets-told : (k j : ℕ) → 1 ≤ j → j ≤ 8 → handedAt (heardAt octets k) j ≡ toldBy (firstBits octets (8 * k + j))
+  pub octets-told : (k j : ℕ) → 1 ≤ j → j ≤ 8 → handedAt (heardAt octets k) j ≡ handedFrom (firstBits octets (8 * k + j))
   octets-told k zero p q = absurd (omega arith)
   octets-told k (suc i) p q =
       let n = 8 * k + i in
@@ -88,7 +88,7 @@ module _ (octets : List ℕ) (small : AreOctets octets) where
       levels-decode octets n ∙ ap (firstBits octets) (sym (add-suc (8 * k) i)) in
       sym (equality octets small (levels octets n) (last octets n) k (suc i) (last-level octets n) p q same)
       ∙ ap handedBy (demand3 (levels octets n) (last octets n))
-      ∙ rw (le-ltb 1 (last octets n) (last-level octets n)) (ap toldBy same)
+      ∙ rw (le-ltb 1 (last octets n) (last-level octets n)) (ap handedFrom same)
 
   -- so at bit j of octet k exactly if 128 bits have come and the frame that ends there is good
   pub octets-good : (k j : ℕ) → 1 ≤ j → j ≤ 8
@@ -158,7 +158,7 @@ module _ (octets : List ℕ) (small : AreOctets octets) where
       by b = octetWith (fedTo octets (suc k)) b (toldFrame octets k b)
 
       -- by bits, if the receiver answers bit b
-      told : (b j : ℕ) → endBit w o ≡ b → 1 ≤ j → j ≤ 8 → handedAt (answerAt w o b) j ≡ toldBy (firstBits octets (8 * k + j))
+      told : (b j : ℕ) → endBit w o ≡ b → 1 ≤ j → j ≤ 8 → handedAt (answerAt w o b) j ≡ handedFrom (firstBits octets (8 * k + j))
       told b j e p q = sym (ap (λ (b : ℕ). handedAt (answerAt w o b) j) e) ∙ octets-told octets small k j p q
 
       ends : (b j : ℕ) → endBit w o ≡ b → 1 ≤ j → j ≤ 8 → endsGood (firstBits octets (8 * k + j)) ≡ framedAt (answerAt w o b) j
@@ -170,7 +170,7 @@ module _ (octets : List ℕ) (small : AreOctets octets) where
           let few : suc i ≤ 8 = omega (arith, bit-le w o) in
           let t : ltb 0 (suc i) ≡ true = lt-ltb 0 (suc i) (omega arith) in
           let held : handedAt (answerAt w o (suc i)) (suc i) ≡ record { frame = true; image = windowImage (taken w o (suc i)) } = rw (t, eq-eqb (suc i) (suc i) refl) in
-          let is : record { frame = true; image = windowImage (taken w o (suc i)) } ≡ toldBy (firstBits octets (8 * k + suc i)) =
+          let is : record { frame = true; image = windowImage (taken w o (suc i)) } ≡ handedFrom (firstBits octets (8 * k + suc i)) =
           sym held ∙ told (suc i) (suc i) e (omega arith) few in
           let g : endsGood (firstBits octets (8 * k + suc i)) ≡ true = sym (ap (λ (h : Handed). h .frame) is) in
           let first : goodBit octets k ≡ suc i =

@@ -21,8 +21,8 @@ use Rattle.bits.proofs.NumberLaws.{tab-more}
 use Rattle.bits.proofs.OctetLaws.{bit-in}
 use Rattle.line.proofs.WindowLaws.{valFrom, val-snoc, Low, windowOf, low-is}
 use Rattle.line.proofs.Holding.{idle, run-window, heard-answer}
-use Rattle.octets.specs.Feeding.{taken, endsAt, lastOf, endBit, answerAt, freshOctets, fedTo, heardAt}
-use Rattle.octets.specs.Hearing.{firstBits, handedBy, framedAt, handedAt}
+use Rattle.octets.specs.Feeding.{taken, endsAt, lastThat, endBit, answerAt, freshOctets, fedTo, heardAt}
+use Rattle.octets.specs.ToldOctets.{firstBits, handedBy, framedAt, handedAt}
 use Rattle.octets.proofs.TakeLaws.{one-more, taken-low}
 use Rattle.octets.proofs.AnswerLaws.{bit-is}
 
@@ -79,16 +79,16 @@ module _ (octets : List ℕ) (small : AreOctets octets) where
 
 -- ---- what it answers at a bit
 
-last-passes : (f : ℕ → Bool) (n j : ℕ) → 1 ≤ j → lastOf f n ≡ j → f j ≡ true
-unfolding lastOf
+last-passes : (f : ℕ → Bool) (n j : ℕ) → 1 ≤ j → lastThat f n ≡ j → f j ≡ true
+unfolding lastThat
 last-passes f zero j h e = absurd (omega arith)
 last-passes f (suc n) j h e = go (f (suc n)) refl (last-passes f n j h)
   where
-    go : (t : Bool) → f (suc n) ≡ t → (lastOf f n ≡ j → f j ≡ true) → f j ≡ true
+    go : (t : Bool) → f (suc n) ≡ t → (lastThat f n ≡ j → f j ≡ true) → f j ≡ true
     go true q ih =
-        let x : suc n ≡ j = sym (ap (λ (t : Bool). pick t (suc n) (lastOf f n)) q) ∙ e in
+        let x : suc n ≡ j = sym (ap (λ (t : Bool). pick t (suc n) (lastThat f n)) q) ∙ e in
         ap f (sym x) ∙ q
-    go false q ih = ih (sym (ap (λ (t : Bool). pick t (suc n) (lastOf f n)) q) ∙ e)
+    go false q ih = ih (sym (ap (λ (t : Bool). pick t (suc n) (lastThat f n)) q) ∙ e)
 
 bit-passes : (w : Window) (o j : ℕ) → 1 ≤ j → endBit w o ≡ j → endsAt w o j ≡ true
 unfolding endBit

@@ -10,7 +10,7 @@ use lib.ListN.{length, getD, length-append, List·getD-append}
 use lib.Seq.{getD-append-add}
 use Rattle.bits.specs.Octets.{AreOctets}
 use Rattle.octets.specs.Feeding.{heardOctet, freshOctets, fedTo, heardAt}
-use Rattle.octets.specs.Hearing.{toldOctet}
+use Rattle.octets.specs.ToldOctets.{toldOctet}
 use Rattle.octets.specs.declared.OctetReceiver.{OctetReceiver}
 use Rattle.octets.specs.declared.HeardOctet.{HeardOctet}
 use Rattle.octets.proofs.Demand3.{octets-demand3}

@@ -1,5 +1,5 @@
 -- The receiver that is fed octets, as it works (02, item 5): eight decoded bits at once, most significant first. It is said with the first
--- receiver's window and push. Hearing.antt says what it must hand over.
+-- receiver's window and push. ToldOctets.antt says what it must hand over.
 use mathlib.Core.Bool.{Bool}
 use mathlib.Core.List.{List}
 use Prim.Native.Nat.{ℕ, zero, suc, _-_, _/_, _%_, _^_}
@@ -21,13 +21,13 @@ abbrev pub endsAt : Window → ℕ → ℕ → Bool
 endsAt w octet j = holdsFrame (taken w octet j)
 
 -- the last of 1 to n that passes, or 0
-unfoldable pub lastOf : (ℕ → Bool) → ℕ → ℕ
-lastOf f zero = 0
-lastOf f (suc n) = pick (f (suc n)) (suc n) (lastOf f n)
+unfoldable pub lastThat : (ℕ → Bool) → ℕ → ℕ
+lastThat f zero = 0
+lastThat f (suc n) = pick (f (suc n)) (suc n) (lastThat f n)
 
 -- 'at which of the eight bits', 1 to 8; 0 where none ended. At most one can (`at-most-one`, proofs/AnswerLaws.antt)
 unfoldable pub endBit : Window → ℕ → ℕ
-endBit w octet = lastOf (endsAt w octet) 8
+endBit w octet = lastThat (endsAt w octet) 8
 
 -- the answer where a frame ended at a bit, or at bit 0, which is none: the frame, or zero octets
 abbrev pub answerAt : Window → ℕ → ℕ → HeardOctet

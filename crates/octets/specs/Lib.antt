@@ -1,3 +1,3 @@
 pub mod Feeding
-pub mod Steps
-pub mod Hearing
+pub mod OctetSteps
+pub mod ToldOctets

@@ -3,7 +3,7 @@
 ghost use mathlib.Core.Path.{_≡_};
 ghost use Prim.Native.Nat.{_≤_};
 ghost use Rattle.octets.specs.Feeding.{taken, heardOctet, freshOctets};
-ghost use Rattle.octets.specs.Steps.{leadOf, nothingHeard, heardAs};
+ghost use Rattle.octets.specs.OctetSteps.{leadOf, nothingHeard, heardAs};
 use line::Handed;
 use line::Window;
 

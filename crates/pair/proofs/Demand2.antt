@@ -1,6 +1,6 @@
--- DEMAND 2: what opens closes to its zeroed image, which opens as the same pair and closes to itself; it is its own zeroed image exactly if no
--- absent mode's code has a digit left; which images open, exactly; a pair that closes opens again unchanged; and exactly the pairs of the table with legal content close.
--- Assumes nothing.
+-- DEMAND 2: what opens closes to its zeroed image, which opens as the same pair and closes to itself; it is its own zeroed image exactly if
+-- no absent mode's code has a digit left; which images open, exactly; a pair that closes opens again unchanged; and exactly the pairs of
+-- the table with legal content close. Assumes nothing.
 use mathlib.Core.Path.{_≡_, refl, sym, ap, ap₂, _∙_}
 use mathlib.Core.Bool.{Bool, true, false}
 use mathlib.Core.List.{List, [], _∷_}
@@ -27,7 +27,7 @@ use Rattle.kind.specs.declared.Labelled.the-variants.{Known, Unknown}
 use Rattle.pair.specs.Pairs.{pairOf}
 use Rattle.pair.specs.Opening.{isLabelled, wordKind, wordTrouble, wordMessage, firstWord, secondWord, openChecks, openRefusal, openOf, openWords, openContents}
 use Rattle.pair.specs.Closing.{closeChecks, closeRefusal, closeImage}
-use Rattle.pair.specs.Zeroed.{messageOf, zeroedWord, zeroedImage, Clear}
+use Rattle.pair.specs.ZeroedImage.{messageOf, zeroedWord, zeroedImage, Clear}
 use Rattle.pair.specs.declared.Opened.the-variants.{Pair, Refused}
 use Rattle.bits.proofs.TestLaws.{clash, zero-one}
 use Rattle.bits.proofs.OctetLaws.{bit-lt}

@@ -1,4 +1,5 @@
--- WHAT ITEM 2 SAYS OF OPENING (02): an absent mode's code bits are ignored. A good frame opens as its zeroed image does, refused ones too. Assumes nothing.
+-- WHAT ITEM 2 SAYS OF OPENING (02): an absent mode's code bits are ignored. A good frame opens as its zeroed image does, refused ones too.
+-- Assumes nothing.
 use mathlib.Core.Path.{_≡_, sym, ap, ap₂, _∙_}
 use mathlib.Core.List.{List, [], _∷_}
 use Prim.Native.Nat.{ℕ}
@@ -12,7 +13,7 @@ use Rattle.frame.specs.Words.{placeOf, wordOf, imageOf}
 use Rattle.kind.specs.Labels.{isKnown, kindNamed}
 use Rattle.pair.specs.Pairs.{pairOf}
 use Rattle.pair.specs.Opening.{firstWord, secondWord, openOf, openWords}
-use Rattle.pair.specs.Zeroed.{messageOf, zeroedWord, zeroedImage}
+use Rattle.pair.specs.ZeroedImage.{messageOf, zeroedWord, zeroedImage}
 use Rattle.pair.specs.declared.Opened.the-variants.{Pair, Refused}
 use Rattle.bits.proofs.OctetLaws.{bit-lt}
 use Rattle.frame.proofs.FrameLaws.{verdict-good, verdict-image}

@@ -1,5 +1,5 @@
--- WHAT OPENING AND CLOSING TELL OF THE INSIDE OF A MESSAGE (02, item 4): a refusal of 12 to 15 names the first message that has a trouble, and of
--- its troubles the cause and the bit of the first: none begins at a lower bit. Assumes nothing.
+-- WHAT OPENING AND CLOSING TELL OF THE INSIDE OF A MESSAGE (02, item 4): a refusal of 12 to 15 names the first message that has a trouble,
+-- and of its troubles the cause and the bit of the first: none begins at a lower bit. Assumes nothing.
 use mathlib.Core.Path.{_≡_, refl, sym, ap, subst, _∙_}
 use mathlib.Core.List.{List, [], _∷_}
 use mathlib.Core.Logic.{_⊎_, inl, inr, ⊎-elim}
@@ -18,7 +18,7 @@ use Rattle.kind.specs.Layouts.{layoutOf}
 use Rattle.message.specs.Messages.{kindOf, partsOf}
 use Rattle.message.specs.Codec.{messageTrouble}
 use Rattle.message.specs.declared.Message.{Message}
-use Rattle.pair.specs.Opening.{wordKind, wordMessage, wordTrouble, firstWord, secondWord, openChecks, openRefusal, openOf, refusalOf}
+use Rattle.pair.specs.Opening.{wordKind, wordMessage, wordTrouble, firstWord, secondWord, openChecks, openRefusal, openOf, refusalInOpened}
 use Rattle.pair.specs.Closing.{closeChecks, closeRefusal}
 use Rattle.pair.specs.declared.Opened.the-variants.{Pair, Refused}
 use Rattle.bits.proofs.NumberLaws.{num-lt}
@@ -78,9 +78,9 @@ module _ (image : List ℕ) where
   open-first place c b e =
       let v = firstWord image in
       let w = secondWord image in
-      let tells = answer-tells Refused (Pair (wordMessage v) (wordMessage w)) refusalOf (openChecks image) refl (λ r. refl) refl in
+      let tells = answer-tells Refused (Pair (wordMessage v) (wordMessage w)) refusalInOpened (openChecks image) refl (λ r. refl) refl in
       two-told (BeginsInside v) (BeginsInside w) (wordTrouble v) (wordTrouble w) (content-first (wordKind v) v) (content-first (wordKind w) w) place c b
-      (first-told (openChecks image) refl place c b (sym tells ∙ ap refusalOf e) .1 .1 .1 .1 .1 .1 .1)
+      (first-told (openChecks image) refl place c b (sym tells ∙ ap refusalInOpened e) .1 .1 .1 .1 .1 .1 .1)
 
   pub open-not-wide : (place b : ℕ) → openOf image ≡ Refused (insideAt place TooWide b) → ⊥
   open-not-wide place b e =

@@ -1,5 +1,5 @@
--- THE RULES OF THE PAIR TABLE (01, 'Which pairs may share a frame'; S.9: 02, item 1), of what the code's table answers: said over the contract of `is_pair`. One computed
--- test of all entries, and the rules at any two kinds. Assumes nothing.
+-- THE RULES OF THE PAIR TABLE (01, 'Which pairs may share a frame'; S.9: 02, item 1), of what the code's table answers: said over the
+-- contract of `is_pair`. One computed test of all entries, and the rules at any two kinds. Assumes nothing.
 use mathlib.Core.Path.{_≡_, refl, ap, _∙_}
 use mathlib.Core.Bool.{Bool, true}
 use mathlib.Core.List.{List, [], _∷_, map}
@@ -27,8 +27,8 @@ followedBy firsts seconds first second answer = implies (isIn first firsts) (agr
 abbrev pub follows : List Kind → List Kind → Kind → Kind → Bool → Bool
 follows seconds firsts first second answer = implies (isIn second seconds) (agree answer (isIn first firsts))
 
--- S.0 is followed by S.0 only, and follows nothing else; S.4+ and S.8+ are followed by S.3 or S.5, and are never second; S.4, S.6 and S.8 are followed by S.4, S.6, S.8 or Blank;
--- Blank, S.3 and S.5 are never first; S.9 stands only as S.9 followed by S.9
+-- S.0 is followed by S.0 only, and follows nothing else; S.4+ and S.8+ are followed by S.3 or S.5, and are never second; S.4, S.6 and S.8
+-- are followed by S.4, S.6, S.8 or Blank; Blank, S.3 and S.5 are never first; S.9 stands only as S.9 followed by S.9
 abbrev pub pairRules : Kind → Kind → Bool → List Bool
 pairRules first second answer =
     followedBy (S0 ∷ []) (S0 ∷ []) first second answer

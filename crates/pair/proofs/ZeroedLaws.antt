@@ -9,8 +9,8 @@ use lib.ListN.{length}
 use Rattle.bits.specs.Octets.{AreOctets, bitAt}
 use Rattle.frame.specs.Frame.{goodFrame}
 use Rattle.frame.specs.Words.{placeOf, wordOf, messageBit, imageOf}
-use Rattle.message.specs.Zeroed.{zeroedBit, NoDigits}
-use Rattle.pair.specs.Zeroed.{messageOf, zeroedWord, zeroedImage, Clear}
+use Rattle.message.specs.ZeroedMessage.{zeroedBit, NoDigits}
+use Rattle.pair.specs.ZeroedImage.{messageOf, zeroedWord, zeroedImage, Clear}
 use Rattle.bits.proofs.TestLaws.{by-lt}
 use Rattle.bits.proofs.NumberLaws.{num-ext, num-lt}
 use Rattle.bits.proofs.OctetLaws.{bit-lt}

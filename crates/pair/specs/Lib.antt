@@ -1,4 +1,4 @@
 pub mod Pairs
 pub mod Opening
 pub mod Closing
-pub mod Zeroed
+pub mod ZeroedImage

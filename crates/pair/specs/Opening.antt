@@ -68,9 +68,9 @@ unfoldable pub openOf : List ℕ → Opened
 openOf image = answered Refused (openRefusal image) (Pair (wordMessage (firstWord image)) (wordMessage (secondWord image)))
 
 -- 01's number and place of each case, and 02's bit
-abbrev pub refusalOf : Opened → Refusal
-refusalOf (Pair first second) = numbered success
-refusalOf (Refused r) = r
+abbrev pub refusalInOpened : Opened → Refusal
+refusalInOpened (Pair first second) = numbered success
+refusalInOpened (Refused r) = r
 
 -- ---- the steps of the code
 

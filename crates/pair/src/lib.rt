@@ -2,7 +2,7 @@
 
 ghost use mathlib.Core.Path.{_≡_};
 ghost use Rattle.pair.specs.Pairs.{pairOf};
-ghost use Rattle.pair.specs.Opening.{refusalOf, openContents, openWords, openOf};
+ghost use Rattle.pair.specs.Opening.{refusalInOpened, openContents, openWords, openOf};
 ghost use Rattle.pair.specs.Closing.{Closed};
 use kind::Kind;
 use kind::Labelled;
@@ -45,7 +45,7 @@ pub enum Opened {
 impl Opened {
     // The answer as a number, a place and a bit.
     pub fn refusal(self) -> Refusal
-        ensures { λ r. ⌜ r ≡ refusalOf self ⌝ }
+        ensures { λ r. ⌜ r ≡ refusalInOpened self ⌝ }
     {
         match self {
             Opened::Pair(_, _) => Refusal::of(refusal::SUCCESS),

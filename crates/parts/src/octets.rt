@@ -2,7 +2,8 @@
 
 ghost use mathlib.Core.Path.{_≡_};
 
-// What the next octet of the line belongs to: a new part; the first or second digit of an octet; an octet of one digit; a text; a number of times.
+// What the next octet of the line belongs to: a new part; the first or second digit of an octet; an octet of one digit; a text; a number of
+// times.
 const NEW: u8 = 0;
 
 const FIRST: u8 = 1;
@@ -218,7 +219,8 @@ fn walk(line: &[u8], from: usize, space: &mut [u8]) -> Gathered {
     end(g, space)
 }
 
-// Puts the octets of the parts from k on into the space, and answers how many there are; more than any space has where they are not understood.
+// Puts the octets of the parts from k on into the space, and answers how many there are; more than any space has where they are not
+// understood.
 pub fn gather(line: &[u8], k: usize, space: &mut [u8]) -> usize {
     if crate::count(line) <= k {
         return 0;

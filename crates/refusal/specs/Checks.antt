@@ -1,5 +1,5 @@
--- 01, 'Orders of checks': each call has its checks in one order, the first that is not passed is told, and a refusal changes nothing. 02, item 4: of a
--- message the first trouble is told.
+-- 01, 'Orders of checks': each call has its checks in one order, the first that is not passed is told, and a refusal changes nothing. 02,
+-- item 4: of a message the first trouble is told.
 use mathlib.Core.Bool.{Bool}
 use mathlib.Core.List.{List, [], _∷_}
 use Prim.Native.Nat.{ℕ}

@@ -1,5 +1,5 @@
--- 01, 'Numbers a caller may get back', and 02, items 4 and 6: a name for each number, 8 and 11 being no longer given; a number with its place, and of what is wrong inside a message
--- with the bit where it begins.
+-- 01, 'Numbers a caller may get back', and 02, items 4 and 6: a name for each number, 8 and 11 being no longer given; a number with its
+-- place, and of what is wrong inside a message with the bit where it begins.
 use Prim.Native.Nat.{ℕ}
 use Rattle.bits.specs.declared.Cause.{Cause}
 use Rattle.bits.specs.declared.Cause.the-variants.{Pattern, Spare, Unused, TooWide}

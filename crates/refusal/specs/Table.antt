@@ -1,5 +1,5 @@
--- 01, 'Numbers a caller may get back', as 02, items 4 and 6, amend it: each number with its places and bits; and an order of checks on one line, as 01 writes
--- it.
+-- 01, 'Numbers a caller may get back', as 02, items 4 and 6, amend it: each number with its places and bits; and an order of checks on one
+-- line, as 01 writes it.
 use mathlib.Core.Bool.{Bool, true, false}
 use mathlib.Core.List.{List, [], _∷_}
 use Prim.Native.Nat.{ℕ}
@@ -28,7 +28,8 @@ orOneOf n many = record { number = n; placeFrom = 0; placeTo = many; bitFrom = 0
 abbrev pub inMessage : ℕ → Row
 inMessage n = record { number = n; placeFrom = 1; placeTo = 2; bitFrom = 7; bitTo = 49 }
 
--- success; a level; a length; the start group; a mark; a check bit; a label; a pair; a range; no frame; pattern, spare bit, unused code, too wide
+-- success; a level; a length; the start group; a mark; a check bit; a label; a pair; a range; no frame; pattern, spare bit, unused code,
+-- too wide
 abbrev pub table : List Row
 table =
     whole 0

@@ -1,4 +1,5 @@
-// The numbers a caller may get back, each by its name (01, 'Numbers a caller may get back'; 02, items 4 and 6). 8 and 11 are no longer given.
+// The numbers a caller may get back, each by its name (01, 'Numbers a caller may get back'; 02, items 4 and 6). 8 and 11 are no longer
+// given.
 
 ghost use mathlib.Core.Path.{_≡_};
 ghost use Rattle.refusal.specs.Refusals.{numbered, numberedAt, numberedIn, causeNumber, insideAt};
@@ -33,8 +34,8 @@ pub const UNUSED_CODE: u8 = 14;
 
 pub const TOO_WIDE: u8 = 15;
 
-// The number; the message or axis that it is about, 1 or 2, of a relay's second message 3 or 4 for its axes, else 0; and of what is wrong inside a
-// message the bit where it begins, else 0. Success is 0 with place and bit 0.
+// The number; the message or axis that it is about, 1 or 2, of a relay's second message 3 or 4 for its axes, else 0; and of what is wrong
+// inside a message the bit where it begins, else 0. Success is 0 with place and bit 0.
 pub struct Refusal {
     pub number: u8,
     pub place: u8,

@@ -1,5 +1,5 @@
--- THE RELAY (02, item 6), of what the public call answers: what it gives if it is not refused; what it tells of the inside of a message; the order of offsets; empty lists; there
--- and back. Assumes nothing.
+-- THE RELAY (02, item 6), of what the public call answers: what it gives if it is not refused; what it tells of the inside of a message;
+-- the order of offsets; empty lists; there and back. Assumes nothing.
 use mathlib.Core.Path.{_≡_, refl, sym, ap, ap₂, subst, _∙_}
 use mathlib.Core.Bool.{Bool, true}
 use mathlib.Core.List.{List, [], _∷_, List·Permᴰ}
@@ -17,7 +17,7 @@ use Rattle.units.specs.Offsets.{areOffsets, sumZ}
 use Rattle.message.specs.declared.Message.{Message}
 use Rattle.pair.specs.Opening.{openOf}
 use Rattle.pair.specs.Closing.{closeRefusal, closeImage}
-use Rattle.pair.specs.Zeroed.{zeroedImage}
+use Rattle.pair.specs.ZeroedImage.{zeroedImage}
 use Rattle.pair.specs.declared.Opened.{Opened}
 use Rattle.pair.specs.declared.Opened.the-variants.{Pair, Refused}
 use Rattle.shift.specs.Positions.{positionOf, isSomewhere, xOf, yOf}

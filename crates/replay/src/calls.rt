@@ -1,4 +1,5 @@
-// The calls of the public list, each with its arguments from a line's parts and its whole answer told; and `wrong_levels`, which makes several of them.
+// The calls of the public list, each with its arguments from a line's parts and its whole answer told; and `wrong_levels`, which makes
+// several of them.
 
 use crate::messages;
 use link1::Feet;

@@ -214,7 +214,8 @@ fn fields_of(m: Message) -> Fields {
     }
 }
 
-// A walk over a message's words and numbers. It tells them, or holds them against the parts of a line: what is understood is what would be told.
+// A walk over a message's words and numbers. It tells them, or holds them against the parts of a line: what is understood is what would be
+// told.
 struct Walk {
     telling: bool,
     part: usize,

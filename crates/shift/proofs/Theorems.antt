@@ -1,5 +1,5 @@
--- Laws of a message that is shifted, whichever of a pair it is: the new steps are the nearest and all else stays; it fits again; empty lists change nothing; a
--- shift is taken back by one offset on each axis. Assumes nothing.
+-- Laws of a message that is shifted, whichever of a pair it is: the new steps are the nearest and all else stays; it fits again; empty
+-- lists change nothing; a shift is taken back by one offset on each axis. Assumes nothing.
 use mathlib.Core.Path.{_≡_, refl, sym, ap, ap₂, _∙_}
 use mathlib.Core.Bool.{true, false}
 use mathlib.Core.List.{List, [], _∷_}

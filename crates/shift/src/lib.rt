@@ -1,5 +1,5 @@
-// The shift of a pair: each message that has a position is moved by lists of offsets in feet, the same lists for both; one without a position passes
-// through. The feet are added exactly and rounded once, at the end.
+// The shift of a pair: each message that has a position is moved by lists of offsets in feet, the same lists for both; one without a
+// position passes through. The feet are added exactly and rounded once, at the end.
 
 ghost use mathlib.Core.Path.{_≡_};
 ghost use Rattle.shift.specs.Positions.{trackPosition, cornerPosition, positionOf, placedTrack, placedCorner, placedAt};
@@ -161,7 +161,8 @@ fn shift_both(first: Message, second: Message, dx: Feet, dy: Feet) -> ShiftedPai
     }
 }
 
-// Shifts a pair: 2 X, 2 Y, 9 on X offsets, 9 on Y offsets, then 9 on results. The lists are checked also where neither message has a position.
+// Shifts a pair: 2 X, 2 Y, 9 on X offsets, 9 on Y offsets, then 9 on results. The lists are checked also where neither message has a
+// position.
 pub fn shift_pair(first: Message, second: Message, xs: &[i32], ys: &[i32]) -> ShiftedPair
     ensures { λ r. ⌜ r ≡ pairShifted first second (now (xs .entry)) (now (ys .entry)) ⌝ }
 {

@@ -77,9 +77,9 @@ unfoldable pub trackedOf : List ℕ → Tracked
 trackedOf text = answered Refused (trackRefusal text) (Number (textNumber text))
 
 -- 01's number and place of each case, and the track number: 0 where there is none
-abbrev pub refusalOf : Tracked → Refusal
-refusalOf (Number n) = numbered success
-refusalOf (Refused r) = r
+abbrev pub refusalInTracked : Tracked → Refusal
+refusalInTracked (Number n) = numbered success
+refusalInTracked (Refused r) = r
 
 abbrev pub numberIn : Tracked → ℕ
 numberIn (Number n) = n

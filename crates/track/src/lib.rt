@@ -3,7 +3,7 @@
 ghost use mathlib.Core.Path.{_≡_};
 ghost use Prim.Native.Nat.{_≤_, _<_};
 ghost use lib.ListN.{length};
-ghost use Rattle.track.specs.TrackText.{letterOf, digitOf, textOf, letterCode, digitCode, Spelled, isText, codeAt, refusalOf, trackedOf};
+ghost use Rattle.track.specs.TrackText.{letterOf, digitOf, textOf, letterCode, digitCode, Spelled, isText, codeAt, refusalInTracked, trackedOf};
 use refusal::Refusal;
 
 // The number that a text names, or the refusal.
@@ -15,7 +15,7 @@ pub enum Tracked {
 impl Tracked {
     // The answer as a number, a place and a bit.
     pub fn refusal(self) -> Refusal
-        ensures { λ r. ⌜ r ≡ refusalOf self ⌝ }
+        ensures { λ r. ⌜ r ≡ refusalInTracked self ⌝ }
     {
         match self {
             Tracked::Number(_) => Refusal::of(refusal::SUCCESS),

@@ -72,18 +72,18 @@ module _ (k : ℕ) (f : ℤ) where
   two : (a : ℕ) → 0 < k → k ≤ k * suc a
   two a h = omega arith
 
-  same : (n m : ℤ) → 0 < k → dist k n f ≡ dist k m f → dist k n f ≤ dist k (pos 0) f → dist k m f ≤ dist k (pos 0) f → natAbs n ≡ natAbs m → up n + dn m ≡ up m + dn n
-  same (pos a) (pos b) p u w z e = omega arith
-  same (pos a) (negsuc b) p u w z e =
+  same-parts : (n m : ℤ) → 0 < k → dist k n f ≡ dist k m f → dist k n f ≤ dist k (pos 0) f → dist k m f ≤ dist k (pos 0) f → natAbs n ≡ natAbs m → up n + dn m ≡ up m + dn n
+  same-parts (pos a) (pos b) p u w z e = omega arith
+  same-parts (pos a) (negsuc b) p u w z e =
       let e′ : a ≡ suc b = e in
       absurd (omega (arith, apart k (pos a) f, apart k (negsuc b) f, apart k (pos 0) f, two b p, ap (λ (x : ℕ). k * x) e′))
-  same (negsuc a) (pos b) p u w z e =
+  same-parts (negsuc a) (pos b) p u w z e =
       let e′ : suc a ≡ b = e in
       absurd (omega (arith, apart k (negsuc a) f, apart k (pos b) f, apart k (pos 0) f, two a p, ap (λ (x : ℕ). k * x) e′))
-  same (negsuc a) (negsuc b) p u w z e = omega arith
+  same-parts (negsuc a) (negsuc b) p u w z e = omega arith
 
   pub nearest-only : (n m : ℤ) → 0 < k → Nearest k f n → Nearest k f m → n ≡ m
-  nearest-only n m h p q = from-parts n m (same n m h as-near (p .close (pos 0)) (q .close (pos 0)) as-far)
+  nearest-only n m h p q = from-parts n m (same-parts n m h as-near (p .close (pos 0)) (q .close (pos 0)) as-far)
     where
       as-near : dist k n f ≡ dist k m f
       as-near = omega (arith, p .close m, q .close n)

@@ -1,5 +1,5 @@
--- ℤ for `omega`: an integer z by its two parts, up z - dn z, of which one is 0. Each operation and each test of ℤ is a linear fact of the parts.
--- Assumes nothing.
+-- ℤ for `omega`: an integer z by its two parts, up z - dn z, of which one is 0. Each operation and each test of ℤ is a linear fact of the
+-- parts. Assumes nothing.
 use mathlib.Core.Path.{_≡_, refl, sym, ap, _∙_}
 use mathlib.Core.Bool.{Bool, true, false, not, cond}
 use Prim.Native.Nat.{ℕ, zero, suc, _+_, _-_, _*_, _/_, _^_, min, _≤_, _<_}

@@ -1,4 +1,5 @@
--- A move by offsets with the sum d and then by one offset of -d gives back the position, unless d is an odd multiple of 375. Assumes nothing.
+-- A move by offsets with the sum d and then by one offset of -d gives back the position, unless d is an odd multiple of 375. Assumes
+-- nothing.
 use mathlib.Core.Path.{_≡_, ap, _∙_}
 use mathlib.Core.Bool.{true}
 use mathlib.Core.List.{List, [], _∷_}

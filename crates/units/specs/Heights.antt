@@ -31,9 +31,9 @@ unfoldable pub heightOf : ℤ → Height
 heightOf f = answered H.Refused (heightRefusal f) (H.At (record { 0 = altitudeOf f }))
 
 -- 01's number and place of each case, and the altitude: 0 where there is none
-abbrev pub refusalOf : Height → Refusal
-refusalOf (H.At n) = numbered success
-refusalOf (H.Refused r) = r
+abbrev pub refusalInHeight : Height → Refusal
+refusalInHeight (H.At n) = numbered success
+refusalInHeight (H.Refused r) = r
 
 abbrev pub altitudeIn : Height → ℕ
 altitudeIn (H.At n) = n .0

@@ -10,7 +10,7 @@ ghost use mir.Syntax.{w32};
 ghost use mir.Val.{SFits};
 ghost use Rattle.units.specs.Offsets.{isOffset, summedOf};
 ghost use Rattle.units.specs.Steps.{near, movedBy};
-ghost use Rattle.units.specs.Heights.{heightOf, refusalOf};
+ghost use Rattle.units.specs.Heights.{heightOf, refusalInHeight};
 use refusal::Refusal;
 
 // Feet.
@@ -122,7 +122,7 @@ pub fn altitude(feet: Feet) -> Height
 impl Height {
     // The answer as a number, a place and a bit.
     pub fn refusal(self) -> Refusal
-        ensures { λ r. ⌜ r ≡ refusalOf self ⌝ }
+        ensures { λ r. ⌜ r ≡ refusalInHeight self ⌝ }
     {
         match self {
             Height::At(_) => Refusal::of(refusal::SUCCESS),

@@ -6,12 +6,12 @@ use Prim.Native.Nat.{ℕ, _*_, _≤_, _<_}
 use native.Mathlib.Omega.{arith}
 use borrow.Author.Needs.{needs}
 use Rattle.bits.proofs.TestLaws.{clash}
-use Rattle.capture.specs.Sieve.{Passed, Looked}
+use Rattle.capture.specs.Sieve.{PassedOver, Looked}
 use Rattle.capture.proofs.look.Statement.{statement}
 use Rattle.capture.proofs.look.Tie as tie
 
 -- octets that were passed hold no frame
-past : {capture : List ℕ} {p i r : ℕ} → Passed capture i r → 8 * i ≤ p → p < 8 * r → Looked capture p false (8 * r)
+past : {capture : List ℕ} {p i r : ℕ} → PassedOver capture i r → 8 * i ≤ p → p < 8 * r → Looked capture p false (8 * r)
 past passed low high =
     record {
       from = omega arith;

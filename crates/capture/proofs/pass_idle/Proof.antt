@@ -2,13 +2,13 @@
 use Prim.Native.Nat.{_-_}
 use borrow.Author.Needs.{needs}
 use lib.ListN.{length}
-use Rattle.capture.specs.Sieve.{Passed}
+use Rattle.capture.specs.Sieve.{PassedOver}
 use Rattle.capture.proofs.SieveLaws.{pass-none, idle-more}
 use Rattle.capture.proofs.pass_idle.Statement.{statement}
 use Rattle.capture.proofs.pass_idle.Tie as tie
 
 abbrev Inv-loop : tie.InvT-loop
-Inv-loop capture i o₀ o = Passed capture i o
+Inv-loop capture i o₀ o = PassedOver capture i o
 
 abbrev μ-loop : tie.MeasureT-loop
 μ-loop capture i o₀ o = length capture - o

@@ -14,14 +14,14 @@ use Rattle.frame.proofs.put_message.Statement.{statement}
 use Rattle.frame.proofs.put_message.Tie as tie
 
 abbrev Inv-loop : tie.InvT-loop
-Inv-loop image₀ k word turned group₀ image group =
+Inv-loop image₀ k word mirrored group₀ image group =
     (1 ≤ group) × (group ≤ 8) × (length image ≡ 16) × (image ≡ written image₀ (dataGroup k 1) (λ i. dataOctet word (i + 1)) (group - 1))
 
 abbrev μ-loop : tie.MeasureT-loop
-μ-loop image₀ k word turned group₀ image group = 8 - group
+μ-loop image₀ k word mirrored group₀ image group = 8 - group
 
-turning-requires : tie.Need-turning-requires Inv-loop μ-loop
-turning-requires c κs = search needs
+mirroring-requires : tie.Need-mirroring-requires Inv-loop μ-loop
+mirroring-requires c κs = search needs
 
 loop-holds : tie.Need-loop-holds Inv-loop μ-loop
 loop-holds c = (search needs, search needs, search needs, sym (written-none _ _ _))
@@ -60,7 +60,7 @@ loop-again c =
     let n = l .group - 1 in
     let at : c .data-group .result ≡ dataGroup (a .k) 1 + n = omega (arith, c .data-group .ensures) in
     let this : l .group ≡ n + 1 = omega arith in
-    let octet = group-written _ (c .before .before .before .before .turning .ensures) (a .word) (l .group) _ (c .before .field .ensures) ∙ ap (dataOctet (a .word)) this in
+    let octet = group-written _ (c .before .before .before .before .mirroring .ensures) (a .word) (l .group) _ (c .before .field .ensures) ∙ ap (dataOctet (a .word)) this in
     let next : n + 1 ≡ l .group + 1 - 1 = omega arith in (
       search needs,
       search needs,
@@ -82,7 +82,7 @@ put-message-spec =
     (tie.spec
     Inv-loop
     μ-loop
-    turning-requires
+    mirroring-requires
     loop-holds
     cast-field
     sub-field

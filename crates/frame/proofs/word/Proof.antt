@@ -17,14 +17,14 @@ use Rattle.frame.proofs.word.Statement.{statement}
 use Rattle.frame.proofs.word.Tie as tie
 
 abbrev Inv-loop : tie.InvT-loop
-Inv-loop image k turned gathered₀ group₀ gathered group =
+Inv-loop image k mirrored gathered₀ group₀ gathered group =
     (1 ≤ group) × (group ≤ 8) × (gathered ≡ numOf (λ i. bitAt image (placeOf k (i + 1))) (7 * (group - 1)))
 
 abbrev μ-loop : tie.MeasureT-loop
-μ-loop image k turned gathered₀ group₀ gathered group = 8 - group
+μ-loop image k mirrored gathered₀ group₀ gathered group = 8 - group
 
-turning-requires : tie.Need-turning-requires Inv-loop μ-loop
-turning-requires c κs = search needs
+mirroring-requires : tie.Need-mirroring-requires Inv-loop μ-loop
+mirroring-requires c κs = search needs
 
 loop-holds : tie.Need-loop-holds Inv-loop μ-loop
 loop-holds c = (search needs, search needs, sym (num-none _))
@@ -57,14 +57,14 @@ mul-place c = search needs
 cast-place-2 : tie.Need-cast-place-2 Inv-loop μ-loop
 cast-place-2 c =
     let octet = getD (c .before .before .before .before .before .before .args .image .now) (c .before .data-group .result) 0 in
-    record { fits = lt-of-lt-of-le (seven-lt _ (c .before .before .before .before .turning .ensures) octet) (lit≤ tt) }
+    record { fits = lt-of-lt-of-le (seven-lt _ (c .before .before .before .before .mirroring .ensures) octet) (lit≤ tt) }
 
 place-requires : tie.Need-place-requires Inv-loop μ-loop
 place-requires c κs =
     let l = c .before .before .before .loop in
     let s = c .before .before .before .before .before .before .args .image .now in
     let octet = getD s (c .before .data-group .result) 0 in
-    (rw (l .inv .2) (num-lt _ _ (λ i _. bit-lt s _)), seven-lt _ (c .before .before .before .before .turning .ensures) octet, search needs)
+    (rw (l .inv .2) (num-lt _ _ (λ i _. bit-lt s _)), seven-lt _ (c .before .before .before .before .mirroring .ensures) octet, search needs)
 
 add-group : tie.Need-add-group Inv-loop μ-loop
 add-group c = search needs
@@ -82,7 +82,7 @@ loop-again c =
       search needs,
       c .place .ensures .0
           ∙ ap₂ (λ (x y : ℕ). x * 2 ^ (7 * (l .group - 1)) + y)
-          (group-read _ (c .before .before .before .before .before .turning .ensures) (a .image .now) (a .k) (l .group) _ (c .before .before .data-group .ensures) (search needs))
+          (group-read _ (c .before .before .before .before .before .mirroring .ensures) (a .image .now) (a .k) (l .group) _ (c .before .before .data-group .ensures) (search needs))
           (l .inv .2)
           ∙ group-more f (l .group) (search needs) ∙ ap (λ (n : ℕ). numOf f (7 * n)) next,
     )
@@ -98,7 +98,7 @@ word-spec =
     (tie.spec
     Inv-loop
     μ-loop
-    turning-requires
+    mirroring-requires
     loop-holds
     data-group-requires
     shared-slice-read-octet

@@ -15,8 +15,8 @@ longer : (s : Receiver) (l : ℕ) (w : Window) → s .started ≡ true → w ≡
     → _≡_ {A = Receiver} (record { started = true; last = l; window = w }) (accepted s l)
 longer s l w h e = rw (h, e)
 
-same : (s : Receiver) (l : ℕ) → s .started ≡ false → _≡_ {A = Receiver} (record { started = true; last = l; window = s .window }) (accepted s l)
-same s l h = rw h
+as-accepted : (s : Receiver) (l : ℕ) → s .started ≡ false → _≡_ {A = Receiver} (record { started = true; last = l; window = s .window }) (accepted s l)
+as-accepted s l h = rw h
 
 change-requires : tie.Need-change-requires
 change-requires c κs = search needs
@@ -28,7 +28,7 @@ returns : tie.Need-returns
 returns c = longer _ _ _ (c .before .before .if1 .taken) (c .push .ensures ∙ ap (pushed _) (c .before .change .ensures))
 
 returns-2 : tie.Need-returns-2
-returns-2 c = same _ _ (c .if1 .left)
+returns-2 c = as-accepted _ _ (c .if1 .left)
 
 pub accept-spec : {M : Type 1} → statement M
 accept-spec = tie.close (tie.spec change-requires push-requires returns returns-2)

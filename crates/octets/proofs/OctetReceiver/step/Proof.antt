@@ -6,7 +6,7 @@ use borrow.Author.Needs.{needs}
 use Rattle.line.specs.Machine.{handedOf}
 use Rattle.line.specs.declared.Handed.{Handed}
 use Rattle.line.specs.declared.Window.{Window}
-use Rattle.octets.specs.Steps.{nothingHeard, heardAs}
+use Rattle.octets.specs.OctetSteps.{nothingHeard, heardAs}
 use Rattle.octets.specs.declared.OctetReceiver.{OctetReceiver}
 use Rattle.octets.proofs.AnswerLaws.{heard-none, heard-one}
 use Rattle.octets.proofs.OctetReceiver.step.Statement.{statement}

@@ -1,7 +1,7 @@
 -- `pair::Opened::refusal` meets its contract. Assumes nothing.
 use mathlib.Core.Path.{sym, ap, _∙_}
 use borrow.Author.Needs.{needs}
-use Rattle.pair.specs.Opening.{refusalOf}
+use Rattle.pair.specs.Opening.{refusalInOpened}
 use Rattle.pair.proofs.Opened.refusal.Statement.{statement}
 use Rattle.pair.proofs.Opened.refusal.Tie as tie
 
@@ -15,7 +15,7 @@ enum-known-self : tie.Need-enum-known-self
 enum-known-self c = search needs
 
 returns : tie.Need-returns
-returns c = c .of .ensures ∙ sym (ap refusalOf (c .before .enum-told .given .1))
+returns c = c .of .ensures ∙ sym (ap refusalInOpened (c .before .enum-told .given .1))
 
 returns-2 : tie.Need-returns-2
 returns-2 c = search needs

@@ -1,7 +1,7 @@
 -- `track::Tracked::refusal` meets its contract. Assumes nothing.
 use mathlib.Core.Path.{sym, ap, _∙_}
 use borrow.Author.Needs.{needs}
-use Rattle.track.specs.TrackText.{refusalOf}
+use Rattle.track.specs.TrackText.{refusalInTracked}
 use Rattle.track.proofs.Tracked.refusal.Statement.{statement}
 use Rattle.track.proofs.Tracked.refusal.Tie as tie
 
@@ -15,7 +15,7 @@ enum-known-self : tie.Need-enum-known-self
 enum-known-self c = search needs
 
 returns : tie.Need-returns
-returns c = c .of .ensures ∙ sym (ap refusalOf (c .before .enum-told .given .1))
+returns c = c .of .ensures ∙ sym (ap refusalInTracked (c .before .enum-told .given .1))
 
 returns-2 : tie.Need-returns-2
 returns-2 c = search needs

@@ -1,7 +1,7 @@
 -- `units::Height::refusal` meets its contract. Assumes nothing.
 use mathlib.Core.Path.{sym, ap, _∙_}
 use borrow.Author.Needs.{needs}
-use Rattle.units.specs.Heights.{refusalOf}
+use Rattle.units.specs.Heights.{refusalInHeight}
 use Rattle.units.proofs.Height.refusal.Statement.{statement}
 use Rattle.units.proofs.Height.refusal.Tie as tie
 
@@ -15,7 +15,7 @@ enum-known-self : tie.Need-enum-known-self
 enum-known-self c = search needs
 
 returns : tie.Need-returns
-returns c = c .of .ensures ∙ sym (ap refusalOf (c .before .enum-told .given .1))
+returns c = c .of .ensures ∙ sym (ap refusalInHeight (c .before .enum-told .given .1))
 
 returns-2 : tie.Need-returns-2
 returns-2 c = search needs

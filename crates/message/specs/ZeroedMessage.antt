@@ -1,5 +1,5 @@
--- A message with the codes of its absent modes zeroed (02, item 2; 001, Annex C, Appendix 3, paragraph 5): by bit numbers, and by no reading
--- or writing of messages. A message is given by its bits: b i is message bit i, for i from 1 to 49.
+-- A message with the codes of its absent modes zeroed (02, item 2; 001, Annex C, Appendix 3, paragraph 5): by bit numbers, and by no
+-- reading or writing of messages. A message is given by its bits: b i is message bit i, for i from 1 to 49.
 use mathlib.Core.Path.{_≡_}
 use mathlib.Core.Bool.{Bool, true, false}
 use Prim.Native.Nat.{ℕ, _+_, _≤_}

@@ -22,12 +22,12 @@ unfoldable pub endsGood : List ℕ → Bool
 endsGood bits = both (leb 128 (length bits)) (goodFrame (lastFrame bits))
 
 -- a frame is handed over exactly when the bits end in a good one, and then that one; else zero octets
-abbrev pub toldBy : List ℕ → Handed
-toldBy bits = record { frame = endsGood bits; image = pick (endsGood bits) (octetsOf 16 (lastFrame bits)) (replicate 16 0) }
+abbrev pub handedFrom : List ℕ → Handed
+handedFrom bits = record { frame = endsGood bits; image = pick (endsGood bits) (octetsOf 16 (lastFrame bits)) (replicate 16 0) }
 
 -- the answer to a level that is taken, the last of the levels ls, which decode to the bits
 abbrev pub toldOf : List ℕ → List ℕ → Heard
-toldOf ls bits = record { receiver = run ls; refusal = numbered success; frame = toldBy bits .frame; image = toldBy bits .image }
+toldOf ls bits = record { receiver = run ls; refusal = numbered success; frame = handedFrom bits .frame; image = handedFrom bits .image }
 
 -- the answer to a level that is neither 0 nor 1: 1, and no frame
 abbrev pub toldRefused : List ℕ → Heard

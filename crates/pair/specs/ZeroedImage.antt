@@ -1,11 +1,11 @@
--- The image that an accepted image closes to (02, item 2): the same bits with absent modes' codes zeroed and the check bits worked anew. It is
--- said by bit numbers, and by no opening or closing.
+-- The image that an accepted image closes to (02, item 2): the same bits with absent modes' codes zeroed and the check bits worked anew. It
+-- is said by bit numbers, and by no opening or closing.
 use mathlib.Core.List.{List}
 use Prim.Native.Nat.{ℕ, _+_}
 use Rattle.bits.specs.Numbers.{numOf}
 use Rattle.bits.specs.Octets.{bitAt}
 use Rattle.frame.specs.Words.{placeOf, imageOf}
-use Rattle.message.specs.Zeroed.{zeroedBit, NoDigits}
+use Rattle.message.specs.ZeroedMessage.{zeroedBit, NoDigits}
 
 -- bit i of message k of the frame b
 abbrev pub messageOf : (ℕ → ℕ) → ℕ → ℕ → ℕ

@@ -1,5 +1,5 @@
 -- THE EQUALITY and DEMAND 3 for the octet receiver (02, item 5): the bits that have come, what they say, and what the two receivers hand
--- over. That bits end in a good frame is `endsGood`, in Hearing.antt of `line`.
+-- over. That bits end in a good frame is `endsGood`, in Told.antt of `line`.
 use mathlib.Core.Bool.{Bool, true, false}
 use mathlib.Core.List.{List}
 use Prim.Native.Nat.{ℕ, zero, suc, _+_, _*_}
@@ -9,7 +9,7 @@ use Rattle.bits.specs.Tests.{pick, both}
 use Rattle.bits.specs.Numbers.{tab}
 use Rattle.bits.specs.Octets.{bitAt, octetsOf}
 use Rattle.line.specs.Machine.{noImage}
-use Rattle.line.specs.Hearing.{lastFrame, endsGood}
+use Rattle.line.specs.Told.{lastFrame, endsGood}
 use Rattle.line.specs.declared.Handed.{Handed}
 use Rattle.line.specs.declared.Heard.{Heard}
 use Rattle.octets.specs.Feeding.{fedTo}
