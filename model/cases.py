@@ -2068,6 +2068,24 @@ def odd_lines():
     return cases
 
 
+# Lines as a person writes them. The answer is worked by the model; a further case is a further line.
+BY_HAND = (
+    "open x00c480*13 xbb",
+    "relay 16 by 400 400 and of x00c480*13 xbb",
+    "track_number =EG123",
+    "close S4 number 5203 quality 1 x -12 y 40 Blank x00*16",
+    "wrong_levels 0 x00c480*13 xbb",
+)
+
+# The first of them without the x, the second with a comma: docs/CASES.md shows both.
+MISTAKEN = ("open 00c480*13 bb", "relay 16 by 400, 400 and of x00c480*13 xbb")
+
+
+def by_hand():
+    """Lines written by hand: those of the README and of docs/CASES.md, and two mistaken ones."""
+    return [lines.said(text) for text in BY_HAND] + [lines.not_understood(text) for text in MISTAKEN]
+
+
 def last_line():
     """A last line without line feed."""
     return [lines.verdict(Q)]
@@ -2089,7 +2107,7 @@ GROUPS = (examples, names, pairs_closed, pairs_opened, labels_opened, whole_mess
           relays_of_digits, relays_and_back, relays_half_way_back,
           one_wrong_level, one_wrong_refused, one_wrong_writings, one_wrong_heard, one_wrong_in_noise,
           one_wrong_between, two_wrong_levels, swapped_midway,
-          altitudes, text_characters, texts, other_writings, odd_numbers, odd_messages, odd_lines, last_line)
+          altitudes, text_characters, texts, other_writings, odd_numbers, odd_messages, odd_lines, by_hand, last_line)
 
 
 def all_cases():

@@ -1,10 +1,11 @@
-"""The files that the model makes: path from the root, and octets."""
+"""The files that the model makes, and the pages that hold its tables: path from the root, and octets."""
 
 import os
 
 import cases
 import hearings
 import listings
+import reference
 
 TREE = os.path.dirname(os.path.dirname(os.path.abspath(__file__)))
 
@@ -13,3 +14,8 @@ def made_files():
     calls, answers = cases.replay_files()
     replayed = [("crates/replay/stdin", calls), ("crates/replay/stdout", answers)]
     return replayed + listings.listed_files() + hearings.heard_files()
+
+
+def made_pages(root):
+    """The pages of a tree with the tables that the model makes."""
+    return [(reference.PAGE, reference.page(root).encode("utf-8"))]

@@ -201,3 +201,65 @@ def note(text):
 
 def not_understood(text):
     return text, "?"
+
+
+# ---- a line that a person wrote: the call that it says is asked of the model
+
+def octets_said(parts):
+    """The octets of parts: x and hexadecimal, : and a digit each, = and the octets; *N repeats the last one."""
+    octets = b""
+    for part in parts:
+        body, _, times = part[1:].partition("*") if part[0] != "=" else (part[1:], "", "")
+        if part[0] == "x":
+            run = bytes.fromhex(body)
+        else:
+            run = bytes(int(digit) for digit in body) if part[0] == ":" else body.encode("ascii")
+        octets += run + run[-1:] * (int(times) - 1 if times else 0)
+    return octets
+
+
+def message_said(parts):
+    """The message that parts begin with, and the parts behind it."""
+    kind, fields = parts[0], {}
+    for place, (word, _, _) in enumerate(link1.FIELDS[kind]):
+        assert parts[2 * place + 1] == word, "%s has the field %s here" % (kind, word)
+        value = parts[2 * place + 2]
+        fields[word] = None if value == "absent" else int(value)
+    return (kind, fields), parts[2 * len(fields) + 1:]
+
+
+def relay_said(parts):
+    last_of_x, last_of_y = parts.index("and"), parts.index("of")
+    return relay(int(parts[0]), [int(part) for part in parts[2:last_of_x]],
+                 [int(part) for part in parts[last_of_x + 1:last_of_y]], octets_said(parts[last_of_y + 1:]))
+
+
+def close_said(parts):
+    first, parts = message_said(parts)
+    second, parts = message_said(parts)
+    return close_pair(first, second, octets_said(parts))
+
+
+SAID = {
+    "verdict": lambda parts: verdict(octets_said(parts)),
+    "open": lambda parts: open_image(octets_said(parts)),
+    "close": close_said,
+    "kind_of": lambda parts: kind_of(message_said(parts)[0]),
+    "label": lambda parts: label(parts[0]),
+    "kind_named": lambda parts: kind_named(int(parts[0])),
+    "send": lambda parts: send(int(parts[0]), int(parts[1]), octets_said(parts[2:])),
+    "wrong_levels": lambda parts: wrong_levels(int(parts[0]), octets_said(parts[1:])),
+    "hear": lambda parts: hear(octets_said(parts)),
+    "hear_octets": lambda parts: hear_octets(octets_said(parts)),
+    "search": lambda parts: search(int(parts[0]), octets_said(parts[1:])),
+    "relay": relay_said,
+    "altitude": lambda parts: altitude(int(parts[0])),
+    "track_number": lambda parts: track_number(octets_said(parts)),
+    "track_text": lambda parts: track_text(int(parts[0]), octets_said(parts[1:])),
+}
+
+
+def said(text):
+    """A line as it is written, with the model's answer to the call."""
+    word, *parts = text.split(" ")
+    return text, SAID[word](parts)[1]
