@@ -1,4 +1,4 @@
--- For each public call, two answers that meet its contract are equal, and so is what they leave in a lent buffer. Each law is over the
+-- For each public call, two answers that meet its contract are equal, and so is what they leave in a lent buffer. Each line is over the
 -- call's own contract: `Post κs a r e` says that the answer r, with e at the exit, meets it on the arguments a, whatever lifetimes κs
 -- they have. Assumes nothing.
 use mathlib.Core.Path.{_≡_, sym, _∙_}
@@ -42,82 +42,54 @@ OneLeaving {R} {E} meets left = (r s : R) (e f : E) → meets r e → meets s f 
 by-third : {A : Type 0} {r s x : A} → r ≡ x → s ≡ x → r ≡ s
 by-third p q = p ∙ sym q
 
--- ---- refusals
-
-pub of-one : (κs : Lfts 0) (a : _) → One (of.Post κs a)
-of-one κs a r s e f p q = by-third p q
-
-pub at-one : (κs : Lfts 0) (a : _) → One (at.Post κs a)
-at-one κs a r s e f p q = by-third p q
-
-pub inside-one : (κs : Lfts 0) (a : _) → One (inside.Post κs a)
-inside-one κs a r s e f p q = by-third p q
-
--- ---- levels, octets, frames and captures
-
-pub verdict-one : (κs : Lfts 1) (a : _) → One (verdict.Post κs a)
-verdict-one κs a r s e f p q = by-third p q
-
-pub fresh-one : (κs : Lfts 0) (a : _) → One (fresh.Post κs a)
-fresh-one κs a r s e f p q = by-third p q
-
-pub step-one : (κs : Lfts 0) (a : _) → One (step.Post κs a)
-step-one κs a r s e f p q = by-third p q
-
-pub send-one : (κs : Lfts 2) (a : _) → OneLeaving (send.Post κs a) (λ e. now (e .1 .1 .0))
-send-one κs a r s e f p q = (by-third (p .0) (q .0), by-third (p .1) (q .1))
-
-pub fresh-octets-one : (κs : Lfts 0) (a : _) → One (fresh-octets.Post κs a)
-fresh-octets-one κs a r s e f p q = by-third p q
-
-pub step-octet-one : (κs : Lfts 0) (a : _) → One (step-octet.Post κs a)
-step-octet-one κs a r s e f p q = by-third p q
-
-pub search-one : (κs : Lfts 1) (a : _) → One (search-call.Post κs a)
-search-one κs a r s e f p q = by-third p q
-
-pub found-refusal-one : (κs : Lfts 0) (a : _) → One (found-refusal.Post κs a)
-found-refusal-one κs a r s e f p q = by-third p q
-
--- ---- messages, pairs and track numbers
-
-pub label-one : (κs : Lfts 0) (a : _) → One (label.Post κs a)
-label-one κs a r s e f p q = by-third p q
-
-pub kind-named-one : (κs : Lfts 0) (a : _) → One (kind-named.Post κs a)
-kind-named-one κs a r s e f p q = by-third p q
-
-pub named-refusal-one : (κs : Lfts 0) (a : _) → One (named-refusal.Post κs a)
-named-refusal-one κs a r s e f p q = by-third p q
-
-pub kind-of-one : (κs : Lfts 0) (a : _) → One (kind-of.Post κs a)
-kind-of-one κs a r s e f p q = by-third p q
-
-pub track-text-one : (κs : Lfts 1) (a : _) → OneLeaving (track-text.Post κs a) (λ e. now (e .1 .0))
-track-text-one κs a r s e f p q = (by-third (p .0) (q .0), by-third (p .1) (q .1))
-
-pub track-number-one : (κs : Lfts 1) (a : _) → One (track-number.Post κs a)
-track-number-one κs a r s e f p q = by-third p q
-
-pub tracked-refusal-one : (κs : Lfts 0) (a : _) → One (tracked-refusal.Post κs a)
-tracked-refusal-one κs a r s e f p q = by-third p q
-
-pub open-one : (κs : Lfts 1) (a : _) → One (open-call.Post κs a)
-open-one κs a r s e f p q = by-third p q
-
-pub opened-refusal-one : (κs : Lfts 0) (a : _) → One (opened-refusal.Post κs a)
-opened-refusal-one κs a r s e f p q = by-third p q
-
-pub close-one : (κs : Lfts 1) (a : _) → OneLeaving (close.Post κs a) (λ e. now (e .1 .1 .0))
-close-one κs a r s e f p q = (by-third (p .0) (q .0), by-third (p .1) (q .1))
-
--- ---- altitudes and the relay
-
-pub altitude-one : (κs : Lfts 0) (a : _) → One (altitude.Post κs a)
-altitude-one κs a r s e f p q = by-third p q
-
-pub height-refusal-one : (κs : Lfts 0) (a : _) → One (height-refusal.Post κs a)
-height-refusal-one κs a r s e f p q = by-third p q
-
-pub relay-one : (κs : Lfts 4) (a : _) → OneLeaving (relay.Post κs a) (λ e. now (e .1 .1 .1 .0))
-relay-one κs a r s e f p q = (by-third (p .0) (q .0), by-third (p .1) (q .1))
+pub one-answer :
+    ((κs : Lfts 0) (a : _) → One (of.Post κs a))
+    × ((κs : Lfts 0) (a : _) → One (at.Post κs a))
+    × ((κs : Lfts 0) (a : _) → One (inside.Post κs a))
+    × ((κs : Lfts 1) (a : _) → One (verdict.Post κs a))
+    × ((κs : Lfts 0) (a : _) → One (fresh.Post κs a))
+    × ((κs : Lfts 0) (a : _) → One (step.Post κs a))
+    × ((κs : Lfts 2) (a : _) → OneLeaving (send.Post κs a) (λ e. now (e .1 .1 .0)))
+    × ((κs : Lfts 0) (a : _) → One (fresh-octets.Post κs a))
+    × ((κs : Lfts 0) (a : _) → One (step-octet.Post κs a))
+    × ((κs : Lfts 1) (a : _) → One (search-call.Post κs a))
+    × ((κs : Lfts 0) (a : _) → One (found-refusal.Post κs a))
+    × ((κs : Lfts 0) (a : _) → One (label.Post κs a))
+    × ((κs : Lfts 0) (a : _) → One (kind-named.Post κs a))
+    × ((κs : Lfts 0) (a : _) → One (named-refusal.Post κs a))
+    × ((κs : Lfts 0) (a : _) → One (kind-of.Post κs a))
+    × ((κs : Lfts 1) (a : _) → OneLeaving (track-text.Post κs a) (λ e. now (e .1 .0)))
+    × ((κs : Lfts 1) (a : _) → One (track-number.Post κs a))
+    × ((κs : Lfts 0) (a : _) → One (tracked-refusal.Post κs a))
+    × ((κs : Lfts 1) (a : _) → One (open-call.Post κs a))
+    × ((κs : Lfts 0) (a : _) → One (opened-refusal.Post κs a))
+    × ((κs : Lfts 1) (a : _) → OneLeaving (close.Post κs a) (λ e. now (e .1 .1 .0)))
+    × ((κs : Lfts 0) (a : _) → One (altitude.Post κs a))
+    × ((κs : Lfts 0) (a : _) → One (height-refusal.Post κs a))
+    × ((κs : Lfts 4) (a : _) → OneLeaving (relay.Post κs a) (λ e. now (e .1 .1 .1 .0)))
+one-answer = (
+  λ κs a r s e f p q. by-third p q,
+  λ κs a r s e f p q. by-third p q,
+  λ κs a r s e f p q. by-third p q,
+  λ κs a r s e f p q. by-third p q,
+  λ κs a r s e f p q. by-third p q,
+  λ κs a r s e f p q. by-third p q,
+  λ κs a r s e f p q. (by-third (p .0) (q .0), by-third (p .1) (q .1)),
+  λ κs a r s e f p q. by-third p q,
+  λ κs a r s e f p q. by-third p q,
+  λ κs a r s e f p q. by-third p q,
+  λ κs a r s e f p q. by-third p q,
+  λ κs a r s e f p q. by-third p q,
+  λ κs a r s e f p q. by-third p q,
+  λ κs a r s e f p q. by-third p q,
+  λ κs a r s e f p q. by-third p q,
+  λ κs a r s e f p q. (by-third (p .0) (q .0), by-third (p .1) (q .1)),
+  λ κs a r s e f p q. by-third p q,
+  λ κs a r s e f p q. by-third p q,
+  λ κs a r s e f p q. by-third p q,
+  λ κs a r s e f p q. by-third p q,
+  λ κs a r s e f p q. (by-third (p .0) (q .0), by-third (p .1) (q .1)),
+  λ κs a r s e f p q. by-third p q,
+  λ κs a r s e f p q. by-third p q,
+  λ κs a r s e f p q. (by-third (p .0) (q .0), by-third (p .1) (q .1)),
+)
