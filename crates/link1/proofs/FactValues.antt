@@ -1,5 +1,5 @@
 -- Messages with values that are all different, and their images and levels, which model/ worked out: what the rows of facts ask with.
-use mathlib.Core.Bool.{true, false}
+use mathlib.Core.Bool.{Bool, true, false}
 use mathlib.Core.List.{List, [], _∷_, _++_}
 use Prim.Native.Nat.{ℕ}
 use lib.IntN.{ℤ, pos, negsuc}
@@ -14,6 +14,38 @@ use Rattle.message.specs.declared.Message.{Message}
 use Rattle.link1.proofs.Asking.{track, at, digits}
 
 -- ---- messages with values that are all different; in three of them a code is left open
+
+-- an S.5's and an S.6's values, in the order of their bits
+abbrev amplifying : ℕ → ℕ → ℕ → ℕ → Bool → Bool → ℕ → ℤ → ℕ → ℕ → ℤ → Amplifying
+amplifying altitude strength identification special simulated drop traffic vx allocation special′ vy =
+    record {
+      altitude = record { 0 = altitude };
+      strength = strength;
+      identification = identification;
+      special23 = special;
+      simulated = simulated;
+      drop = drop;
+      traffic = traffic;
+      vx = vx;
+      allocation = allocation;
+      special39 = special′;
+      vy = vy;
+    }
+
+abbrev strobe : Bool → ℕ → ℕ → Bool → ℕ → ℕ → ℕ → ℕ → ℕ → ℕ → Strobe
+strobe acquisition width type simulated azimuth site sensor number elevation age =
+    record {
+      acquisition = acquisition;
+      width = width;
+      «strobe_type» = type;
+      simulated = simulated;
+      azimuth = azimuth;
+      site = site;
+      sensor = sensor;
+      number = number;
+      elevation = elevation;
+      age = age;
+    }
 
 abbrev pub trackA : Track
 trackA = track 12345 1 (negsuc 1233) (pos 3007)
@@ -33,69 +65,19 @@ iffC = record { mode3a = Absent; request = 4; emergency = true; validation = fal
 
 -- with an altitude, a strength and an X velocity
 abbrev pub amplifyingOf : ℕ → ℕ → ℤ → Amplifying
-amplifyingOf altitude strength vx =
-    record {
-      altitude = record { 0 = altitude };
-      strength = strength;
-      identification = 9;
-      special23 = 1;
-      simulated = true;
-      drop = false;
-      traffic = 2;
-      vx = vx;
-      allocation = 3;
-      special39 = 5;
-      vy = pos 101;
-    }
+amplifyingOf altitude strength vx = amplifying altitude strength 9 1 true false 2 vx 3 5 (pos 101)
 
 abbrev pub amplifyingA : ℕ → Amplifying
 amplifyingA n = amplifyingOf 300 n (negsuc 76)
 
 abbrev pub amplifyingB : Amplifying
-amplifyingB =
-    record {
-      altitude = record { 0 = 77 };
-      strength = 3;
-      identification = 6;
-      special23 = 2;
-      simulated = false;
-      drop = true;
-      traffic = 1;
-      vx = pos 60;
-      allocation = 1;
-      special39 = 2;
-      vy = negsuc 18;
-    }
+amplifyingB = amplifying 77 3 6 2 false true 1 (pos 60) 1 2 (negsuc 18)
 
 abbrev pub strobeA : ℕ → Strobe
-strobeA n =
-    record {
-      acquisition = true;
-      width = 3;
-      «strobe_type» = 1;
-      simulated = false;
-      azimuth = 1717;
-      site = 37;
-      sensor = 5;
-      number = 19;
-      elevation = n;
-      age = 50;
-    }
+strobeA n = strobe true 3 1 false 1717 37 5 19 n 50
 
 abbrev pub strobeB : Strobe
-strobeB =
-    record {
-      acquisition = false;
-      width = 6;
-      «strobe_type» = 2;
-      simulated = true;
-      azimuth = 2900;
-      site = 22;
-      sensor = 1;
-      number = 9;
-      elevation = 2;
-      age = 33;
-    }
+strobeB = strobe false 6 2 true 2900 22 1 9 2 33
 
 -- a corner at x and y, and another
 abbrev pub cornerA : ℤ → ℤ → Corner
@@ -160,20 +142,7 @@ abbrev pub imageSlowest : List ℕ
 imageSlowest = 0 ∷ 0xc6 ∷ replicate 6 0x80 ++ 0xa4 ∷ 0x80 ∷ 0x80 ∷ 0x83 ∷ 0x80 ∷ 0xc0 ∷ 0x81 ∷ 0xdf ∷ []
 
 abbrev pub slowest : Amplifying
-slowest =
-    record {
-      altitude = record { 0 = 0 };
-      strength = 0;
-      identification = 0;
-      special23 = 0;
-      simulated = false;
-      drop = false;
-      traffic = 3;
-      vx = negsuc 127;
-      allocation = 0;
-      special39 = 0;
-      vy = negsuc 127;
-    }
+slowest = amplifying 0 0 0 0 false false 3 (negsuc 127) 0 0 (negsuc 127)
 
 -- an S.4 and an S.8 with every X and Y at 4095; an S.4 at 0 with the same S.8; an S.4 with Y at 4095 and an S.8 with X at 4095
 abbrev pub imageEdges : List ℕ
