@@ -7,7 +7,7 @@ use native.Mathlib.Nat.{zero-add, zero-div, mod-lt, lt-of-lt-of-le}
 use native.Mathlib.Numerals.{add-one}
 use native.Mathlib.Omega.{arith}
 use borrow.Author.Tests.{eq-eqb, eqb-false, le-leb, lt-leb, ltb-true}
-use lib.Dec.{T, eqb, leb, ltb, lit<, leb→le}
+use lib.Dec.{T, eqb, ltb, lit<, leb→le}
 use lib.ListN.{length, drop, getD, drop-of-length-le}
 use lib.Pow.{pow-pos}
 use lib.Seq.{drop-cons}

@@ -232,7 +232,8 @@ module _ (image : List ℕ) (good : verdictOf image ≡ numbered success) (previ
         let small : (n : ℕ) → b n < 2 = λ n. omega (arith, bits-at (bits-of (kept (changedAt i (onTheLine image previous buffer)))) (length (wrongBits image previous buffer i) - 128 + (n - 1))) in
         verdict-image (octetsOf 16 b) (length-octets 16 b) ∙ verdict-ext _ _ (λ n h l. bit-octets 16 b small n h l) ∙ verdict-told
 
--- ---- THE THEOREM: of any good image that `send` writes after either level, any one of the 129 levels changed, the 128 bits are not a good frame
+-- ---- THE THEOREM: of any good image that `send` writes after either level, any one of the 129 levels changed, the 128 bits are not a good
+-- frame
 
 pub one-wrong-level : (image : List ℕ) → verdictOf image ≡ numbered success → (previous : ℕ) → previous ≤ 1 → (buffer : List ℕ) → length buffer ≡ 128
     → (i : ℕ) → i ≤ 128 → (length (wrongBits image previous buffer i) ≡ 128) × (goodFrame (lastFrame (wrongBits image previous buffer i)) ≡ false)

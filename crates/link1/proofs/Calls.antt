@@ -159,7 +159,8 @@ named (names κs a r e p) = p
 pub names-any : (κs : Lfts 0) (label : ℕ) → Names label (namedOf label)
 names-any κs label = names κs (label, tt) (namedOf label) (label, tt) refl
 
--- ---- `track_text`: a track number and a buffer, the refusal and the buffer afterwards; `track_number`: a text, and the number or the refusal
+-- ---- `track_text`: a track number and a buffer, the refusal and the buffer afterwards; `track_number`: a text, and the number or the
+-- refusal
 
 pub data Spells : ℕ → List ℕ → Refusal → List ℕ → Type 0 where
   spells : (κs : Lfts 1) (a : _) (r : Refusal) (e : _) → track-text.Post κs a r e → Spells (a .0) (now (a .1 .0)) r (now (e .1 .0))

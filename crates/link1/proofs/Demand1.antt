@@ -194,7 +194,8 @@ no-number x = refl
 pub no-altitude : (x : Refusal) → heights.altitudeIn (H.Refused x) ≡ 0
 no-altitude x = refl
 
--- ---- a call that hands back state in either case: a level that is refused leaves the receiver as it was, with no frame and sixteen zero octets
+-- ---- a call that hands back state in either case: a level that is refused leaves the receiver as it was, with no frame and sixteen zero
+-- octets
 
 pub step-refuses : {s : Receiver} {level : ℕ} {h : Heard} → Steps s level h
     → (ofTable (h .refusal) ≡ true) × (Refuses (h .refusal) → (h .receiver ≡ s) × (h .frame ≡ false) × (h .image ≡ noImage))

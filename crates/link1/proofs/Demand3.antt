@@ -181,7 +181,8 @@ sent-heard {image} {previous} {buffer} {after} {ls} {s} {l} {h} x octets e f y =
     as-run f y ∙ line.sent-heard image previous buffer (sym (sent x .0)) octets ls l (e ∙ ap (λ (t : List ℕ). previous ∷ t) (sent x .1)) in
     (ap (λ (x : Heard). x .frame) q, ap (λ (x : Heard). x .image) q)
 
--- ---- the receiver that is fed octets (02, item 5): demand 3 holds for it too. `FedOctets octets s` is a chain of its two calls, `Takes s o h` one octet more
+-- ---- the receiver that is fed octets (02, item 5): demand 3 holds for it too. `FedOctets octets s` is a chain of its two calls, `Takes s
+-- o h` one octet more
 
 pub any-octets : (octets : List ℕ) → FedOctets octets (fedTo octets (length octets))
 any-octets = octet-calls.fed-octets-any

@@ -57,8 +57,8 @@ places-are = refl
 pub said-are : map (λ (kind : Kind). map (λ (p : Placed). p .first to p .last) (bitsOf kind)) allKinds ≡ map placesOf allKinds
 said-are = refl
 
--- ---- each bit alone (02, item 4): the number that is told when bit 7, 8, .. 49 of a message is turned, with all other bits above the label
--- zero, or as S.0's groups have them
+-- ---- each bit alone (02, item 4): the number that is told when bit 7, 8, .. 49 of a message is turned, with all other bits above the
+-- label zero, or as S.0's groups have them
 
 abbrev groups : ℕ
 groups = sumOf (λ g. 46 * 2 ^ (7 * g)) 7

@@ -80,7 +80,8 @@ no-positions i a s = (refl, refl, refl, refl, refl)
 pub digits-ignored : {image : List ℕ} {o p : Opened} {r : Refusal} → Judges image r → r ≡ numbered 0 → Opens image o → Opens (zeroedImage image) p → o ≡ p
 digits-ignored {image} j e o p = opened o ∙ digits.digits-ignored image (sym (judged j) ∙ e) ∙ sym (opened p)
 
--- ---- item 4: the cause and the lowest bit number where the trouble begins; if there are several, the lowest bit wins. The first message is told before the second
+-- ---- item 4: the cause and the lowest bit number where the trouble begins; if there are several, the lowest bit wins. The first message
+-- is told before the second
 
 -- troubles begin as P says in the first message and as Q says in the second: the trouble told, of cause c at bit b of message `place`, is
 -- one of these and none begins at a lower bit of its message; where the second message is told, none begins in the first

@@ -90,7 +90,8 @@ search-order {capture} {start} f =
     tells 12 14 (searching.searchChecks capture start) _ refl tt
     (ap searching.refusalInFound (searched f) ∙ answer-tells F.Refused _ searching.refusalInFound (searching.searchChecks capture start) refl (λ r. refl) refl)
 
--- ---- relay an image: opening's in their order, 2 on the output buffer, 2 X, 2 Y, 9 on X offsets, 9 on Y offsets, 9 on the first message's X and Y, 9 on the second's
+-- ---- relay an image: opening's in their order, 2 on the output buffer, 2 X, 2 Y, 9 on X offsets, 9 on Y offsets, 9 on the first message's
+-- X and Y, 9 on the second's
 
 pub relay-order : {image : List ℕ} {xs ys : List ℤ} {buffer after : List ℕ} {r : Refusal} → Relays image xs ys buffer r after
     → Tells 12 14 (relayChecks image xs ys buffer)

@@ -56,8 +56,8 @@ pub altitudes-hold : answers altitudes ≡ expected altitudes
 unfolding answer nearAlt altitudeOf heightRefusal heightOf
 altitudes-hold = refl
 
--- ---- codes (01, 'Messages'): the number that opening tells of each value of a field, by the field's first bit, with all other bits above the
--- label zero
+-- ---- codes (01, 'Messages'): the number that opening tells of each value of a field, by the field's first bit, with all other bits above
+-- the label zero
 
 abbrev tellsOf : Kind → ℕ → ℕ → List ℕ
 tellsOf kind first many = tab (λ n. troubled 1 (contentTrouble kind (n * 2 ^ (first - 1))) .number) many

@@ -165,7 +165,8 @@ module _ (b : ℕ → ℕ) (bits : (i : ℕ) → b i < 2) where
       → Writes msg (wordFrom (zeroedBit b))
   read-written k msg l g is = subst (λ (n : Message). Writes n (wordFrom (zeroedBit b))) is (written k l g)
 
--- ---- the digits of absent modes are ignored (02, item 2): with them zeroed a word has the same label, the same first trouble and the same message
+-- ---- the digits of absent modes are ignored (02, item 2): with them zeroed a word has the same label, the same first trouble and the same
+-- message
 
 -- what is read of a word
 abbrev kindIn : ℕ → Kind
