@@ -95,7 +95,7 @@ module _ (k : ℕ) (f : ℤ) where
 pub nearest-is : (f n : ℤ) → Nearest 750 f n → n ≡ near f
 nearest-is f n p = nearest-only 750 f n (near f) (omega arith) p (near-nearest f)
 
--- ---- what `altitude` answers: never 0, never over 511, and above 375 feet the nearest step
+-- ---- what `altitude` answers: never 0, never over 511
 
 module _ (f : ℤ) (n : AltSteps) (e : heightOf f ≡ H.At n) where
   answered-at : (altitudeOf f ≤ 511) × (altitudeOf f ≡ n .0)
@@ -111,13 +111,6 @@ module _ (f : ℤ) (n : AltSteps) (e : heightOf f ≡ H.At n) where
       go : (a : Bool) → leZ f (pos 375) ≡ a → pick a 1 (nearAlt (natAbs f)) ≤ 511 → pick a 1 (nearAlt (natAbs f)) ≡ n .0 → (1 ≤ n .0) × (n .0 ≤ 511)
       go true p l z = (omega arith, omega arith)
       go false p l z = (omega (arith, le-false f (pos 375) p, abs-parts f, side f), omega arith)
-
-  pub height-nearest : leZ f (pos 375) ≡ false → Nearest 375 f (pos (n .0))
-  unfolding altitudeOf
-  height-nearest p =
-      let above : pos (natAbs f) ≡ f = from-parts (pos (natAbs f)) f (omega (arith, le-false f (pos 375) p, abs-parts f, side f)) in
-      let is : nearAlt (natAbs f) ≡ n .0 = rw p at (answered-at .1) in
-      rw (← is) (subst (λ (z : ℤ). Nearest 375 z (pos (nearAlt (natAbs f)))) above (alt-nearest (natAbs f)))
 
 -- ---- each answer of `altitude`, exactly
 
