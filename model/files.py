@@ -13,7 +13,8 @@ TREE = os.path.dirname(os.path.dirname(os.path.abspath(__file__)))
 def made_files():
     calls, answers = cases.replay_files()
     replayed = [("crates/replay/stdin", calls), ("crates/replay/stdout", answers)]
-    return replayed + listings.listed_files() + hearings.heard_files()
+    printed = listings.text(listings.printed_logs() + hearings.printed_captures())
+    return replayed + listings.listed_files() + hearings.heard_files() + [("crates/file_cases/stdout", printed)]
 
 
 def made_pages(root):

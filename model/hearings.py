@@ -65,11 +65,14 @@ def compared(capture):
 
 
 def heard_files():
-    """The captures with their paths, and what is printed for all of them; that of 'two' by itself."""
+    """The capture 'two' by itself and what is heard in it; each capture with its path."""
     files = [("crates/link1hear/stdin", two()), ("crates/link1hear/stdout", text(hearing(two())))]
-    printed = []
     for name, capture in captures():
         assert heard_alike(compared(capture))
-        files.append(("crates/hear_cases/data/" + name, capture))
-        printed += ["== " + name] + hearing(capture)
-    return files + [("crates/hear_cases/stdout", text(printed))]
+        files.append(("crates/file_cases/data/captures/" + name, capture))
+    return files
+
+
+def printed_captures():
+    """What is printed for all of them, each under its name."""
+    return [line for name, capture in captures() for line in ["== captures/" + name] + hearing(capture)]

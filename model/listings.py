@@ -139,10 +139,11 @@ def text(printed):
 
 
 def listed_files():
-    """The files with their paths, and what is printed for all of them; the paper's own log by itself."""
+    """The paper's own log and its listing; each listed file with its path."""
     files = [("crates/link1list/stdin", T + N), ("crates/link1list/stdout", text(listing(T + N)))]
-    files += [("crates/list_cases/data/" + name, log) for name, log in logs()]
-    printed = []
-    for name, log in logs():
-        printed += ["== " + name] + listing(log)
-    return files + [("crates/list_cases/stdout", text(printed))]
+    return files + [("crates/file_cases/data/logs/" + name, log) for name, log in logs()]
+
+
+def printed_logs():
+    """What is printed for all of them, each under its name."""
+    return [line for name, log in logs() for line in ["== logs/" + name] + listing(log)]

@@ -194,10 +194,3 @@ module _ (image : List ℕ) (size : length image ≡ 16) (octets : AreOctets ima
   -- a good image is the image of its words
   pub image-back : imageOf (wordOf (bitAt image) 1) (wordOf (bitAt image) 2) ≡ image
   image-back = image-frame (bitAt image) (bit-lt image) good ∙ octets-bits image 16 size octets
-
--- so no two good images share their words
-pub words-tell : (s t : List ℕ)
-    → length s ≡ 16 → AreOctets s → goodFrame (bitAt s) ≡ true
-    → length t ≡ 16 → AreOctets t → goodFrame (bitAt t) ≡ true
-    → wordOf (bitAt s) 1 ≡ wordOf (bitAt t) 1 → wordOf (bitAt s) 2 ≡ wordOf (bitAt t) 2 → s ≡ t
-words-tell s t ls os gs lt ot gt e₁ e₂ = sym (image-back s ls os gs) ∙ ap₂ imageOf e₁ e₂ ∙ image-back t lt ot gt

@@ -23,9 +23,13 @@ pub fed-run : {ls : List ℕ} {s : Receiver} → Fed ls s → s ≡ run ls
 fed-run (begun κs a e s p) = p
 fed-run (fed κs e ls s l h f p) = ap (λ (h : Heard). h .receiver) p ∙ ap (λ (s : Receiver). heardOf s l .receiver) (fed-run f) ∙ sym (run-snoc freshOf ls l)
 
--- and whatever it was fed, `step` answers the next level as the decoded bits say
+-- and `step` answers one level more as that receiver does
+pub next-heard : {ls : List ℕ} {s : Receiver} {h : Heard} (l : ℕ) → Fed ls s → h ≡ heardOf s l → h ≡ heardOf (run ls) l
+next-heard l f p = p ∙ ap (λ (s : Receiver). heardOf s l) (fed-run f)
+
+-- so whatever it was fed, `step` answers the next level as the decoded bits say
 pub demand3-of-calls : {ls : List ℕ} {s : Receiver} → Fed ls s → (κs : Lfts 0) (e : _) (l : ℕ) (h : Heard) → step.Post κs (s, (l, tt)) h e → h ≡ told ls l
-demand3-of-calls {ls} f κs e l h p = p ∙ ap (λ (s : Receiver). heardOf s l) (fed-run f) ∙ demand3 ls l
+demand3-of-calls {ls} f κs e l h p = next-heard l f p ∙ demand3 ls l
 
 fed-more : (ms ls : List ℕ) (s : Receiver) → Fed ms s → Fed (ms ++ ls) (runFrom s ls)
 fed-more ms [] s f = subst (λ (ks : List ℕ). Fed ks s) (sym (append-nil ms)) f

@@ -262,8 +262,3 @@ module _ (image : List ℕ) (good : verdictOf image ≡ numbered success) (previ
       let theorem = one-wrong-level image good previous level buffer room i few in
       silent-on-last-bit ls l (y .0) (decoded wrong) (last-le before ls l all some e) decodes (theorem .0)
       (good-ext _ _ (λ n _ _. sym (ends-in [] (decoded wrong) (theorem .0) n)) ∙ theorem .1)
-
-  -- so a fresh receiver that is fed these alone
-  pub fresh-hears-nothing : (ls : List ℕ) (l : ℕ) → ls ++ l ∷ [] ≡ changedAt i (onTheLine image previous buffer)
-      → heardOf (run ls) l ≡ answerWith (run (ls ++ l ∷ [])) success nothingHanded
-  fresh-hears-nothing = nothing-heard []

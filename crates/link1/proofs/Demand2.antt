@@ -17,6 +17,8 @@ use Rattle.bits.specs.Tests.{both}
 use Rattle.bits.specs.Numbers.{sumOf}
 use Rattle.bits.specs.Octets.{AreOctets, bitAt}
 use Rattle.bits.specs.Layout.{bit}
+use Rattle.bits.specs.Begins.{Begins, Misfits, IsFirst}
+use Rattle.bits.specs.declared.Cause.{Cause}
 use Rattle.bits.specs.declared.Trouble.the-variants.{Nothing}
 use Rattle.refusal.specs.Refusals.{numbered}
 use Rattle.refusal.specs.declared.Refusal.{Refusal}
@@ -30,12 +32,12 @@ use Rattle.units.specs.Offsets.{areOffsets, sumZ}
 use Rattle.units.specs.Steps.{isStep}
 use Rattle.units.specs.declared.Height.{Height}
 use Rattle.units.specs.declared.Height.the-variants as H
-use Rattle.kind.specs.Layouts.{allKinds, labelOf}
+use Rattle.kind.specs.Layouts.{allKinds, labelOf, layoutOf}
 use Rattle.kind.specs.declared.Kind.{Kind}
 use Rattle.kind.specs.declared.Kind.the-variants.{Blank, S0, S3, S4, S4Plus, S5, S6, S8, S8Plus, S9}
 use Rattle.kind.specs.declared.Named.{Named}
 use Rattle.kind.specs.declared.Named.the-variants as N
-use Rattle.message.specs.Messages.{kindOf}
+use Rattle.message.specs.Messages.{kindOf, partsOf}
 use Rattle.message.specs.Codec.{messageTrouble}
 use Rattle.message.specs.declared.Message.{Message}
 use Rattle.track.specs.TrackText.{isText, textChecks, textRefusal, trackedOf}
@@ -55,6 +57,7 @@ use Rattle.frame.proofs.FrameLaws as frames
 use Rattle.capture.proofs.SearchLaws as search
 use Rattle.units.proofs.Nearest as nearest
 use Rattle.kind.proofs.LabelLaws as labels
+use Rattle.message.proofs.FirstTrouble as inside
 use Rattle.track.proofs.TextLaws as texts
 use Rattle.pair.proofs.KindsRead as kinds
 use Rattle.pair.proofs.PairRules as rules
@@ -120,6 +123,20 @@ opens-exactly {image} x = (
     opened x
         ∙ pairs.opens-exactly image .1 (record { size = w .0; good = w .1; known-1 = w .2; known-2 = w .3; paired = w .4; fine-1 = w .5; fine-2 = w .6 }),
   ),
+)
+
+-- nothing is wrong inside a word, or a message, exactly if no trouble begins in any of its fields (`Begins`, `Misfits`: of a word, and of
+-- the values of a message; crates/bits/specs/Begins.antt)
+pub word-fine : (word : ℕ) → (wordTrouble word ≡ Nothing) ↔ ((c : Cause) (b : ℕ) → Begins 6 (layoutOf (wordKind word)) word c b → ⊥)
+word-fine word = (
+  λ e. subst (IsFirst (Begins 6 (layoutOf (wordKind word)) word)) e (inside.content-first (wordKind word) word),
+  λ none. sym (inside.content-only (wordKind word) word Nothing none),
+)
+
+pub message-fine : (m : Message) → (messageTrouble m ≡ Nothing) ↔ ((c : Cause) (b : ℕ) → Misfits 6 (layoutOf (kindOf m)) (partsOf m) c b → ⊥)
+message-fine m = (
+  λ e. subst (IsFirst (Misfits 6 (layoutOf (kindOf m)) (partsOf m))) e (inside.message-first m),
+  λ none. sym (inside.message-only m Nothing none),
 )
 
 -- a pair closes exactly if the buffer has sixteen octets, the pair is in the table and every value fits: a legal pair

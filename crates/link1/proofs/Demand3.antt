@@ -6,11 +6,11 @@ use mathlib.Core.Path.{_≡_, refl, sym, ap, _∙_}
 use mathlib.Core.Bool.{Bool, true, false, not}
 use mathlib.Core.List.{List, [], _∷_, _++_, map}
 use mathlib.Core.Logic.{_↔_}
-use Prim.Native.Nat.{ℕ, _+_, _-_, _≤_, _<_}
+use Prim.Native.Nat.{ℕ, suc, _+_, _-_, _*_, _≤_, _<_}
 use native.Mathlib.Omega.{arith}
 use borrow.Author.Tests.{eqb-true, eq-eqb, ne-eqb, ltb-true, ltb-false, le-ltb, leb-true, le-leb, not-true}
 use lib.Dec.{leb}
-use lib.ListN.{length, getD, replicate}
+use lib.ListN.{length, getD, replicate, length-append}
 use Rattle.bits.specs.Tests.{pick, both}
 use Rattle.bits.specs.Numbers.{tab}
 use Rattle.bits.specs.Octets.{AreOctets, bitAt, octetsOf}
@@ -23,7 +23,7 @@ use Rattle.line.specs.Told.{lastFrame, endsGood, told, toldRefused, toldOf, swa
 use Rattle.line.specs.Sending.{sendChecks, sendRefusal}
 use Rattle.line.specs.declared.Receiver.{Receiver}
 use Rattle.line.specs.declared.Heard.{Heard}
-use Rattle.octets.specs.Feeding.{fedTo}
+use Rattle.octets.specs.Feeding.{fedTo, heardAt}
 use Rattle.octets.specs.ToldOctets.{toldOctet}
 use Rattle.octets.specs.declared.OctetReceiver.{OctetReceiver}
 use Rattle.octets.specs.declared.HeardOctet.{HeardOctet}
@@ -32,11 +32,12 @@ use Rattle.refusal.proofs.CheckLaws.{success-exactly}
 use Rattle.frame.proofs.FrameLaws.{good-parts}
 use Rattle.line.proofs.LevelLaws as levels
 use Rattle.line.proofs.Demand3 as line
-use Rattle.line.proofs.OfCalls.{Fed, fed-run, demand3-of-calls}
+use Rattle.line.proofs.OfCalls.{Fed, demand3-of-calls}
 use Rattle.line.proofs.OfCalls as line-calls
-use Rattle.octets.proofs.OfCalls.{FedOctets, octets-demand3-of-calls}
+use Rattle.octets.proofs.Demand3 as octet
+use Rattle.octets.proofs.OfCalls.{FedOctets, fed-octets-run, octets-demand3-of-calls}
 use Rattle.octets.proofs.OfCalls as octet-calls
-use Rattle.link1.proofs.Calls.{Steps, steps, stepped, Takes, takes, Sends, sent}
+use Rattle.link1.proofs.Calls.{Steps, steps, stepped, Takes, takes, taken, Sends, sent}
 
 -- ---- levels and bits (001, Annex A, Appendix 3, paragraph 4)
 
@@ -86,7 +87,7 @@ demand3 f (steps κs a h e p) = demand3-of-calls f κs e (a .1 .0) h p
 
 -- as the machine has it after these levels
 as-run : {ls : List ℕ} {s : Receiver} {l : ℕ} {h : Heard} → Fed ls s → Steps s l h → h ≡ heardOf (run ls) l
-as-run {ls} {s} {l} f x = stepped x ∙ ap (λ (s : Receiver). heardOf s l) (fed-run f)
+as-run {ls} {s} {l} f x = line-calls.next-heard l f (stepped x)
 
 -- in words: a frame is handed over exactly when the level is 0 or 1, 128 bits have been decoded and the last 128 are a good frame
 pub heard-exactly : {ls : List ℕ} {s : Receiver} {l : ℕ} {h : Heard} → Fed ls s → Steps s l h
@@ -192,3 +193,37 @@ any-octets = octet-calls.fed-octets-any
 pub octets-demand3 : {octets : List ℕ} {s : OctetReceiver} {o : ℕ} {h : HeardOctet} → FedOctets octets s → Takes s o h → AreOctets (octets ++ o ∷ [])
     → h ≡ toldOctet (octets ++ o ∷ []) (length octets)
 octets-demand3 f (takes κs a h e p) small = octets-demand3-of-calls f κs e (a .1 .0) h small p
+
+-- as the receiver has it after these octets
+as-fed : {octets : List ℕ} {s : OctetReceiver} {o : ℕ} {h : HeardOctet} → FedOctets octets s → Takes s o h → h ≡ heardAt (octets ++ o ∷ []) (length octets)
+as-fed {octets} {s} {o} f x = octet-calls.next-heard octets o (fed-octets-run f) (taken x)
+
+-- each good frame is heard in the octet of its last bit, and at that bit: the frame at a position, whatever came before it
+pub heard-in-last-octet : {octets : List ℕ} {s : OctetReceiver} {o : ℕ} {h : HeardOctet} → FedOctets octets s → Takes s o h → AreOctets (octets ++ o ∷ [])
+    → (position j : ℕ) → 1 ≤ j → j ≤ 8 → position + 128 ≡ 8 * length octets + j → goodFrame (λ n. bitAt (octets ++ o ∷ []) (position + n)) ≡ true
+    → (h .frame ≡ true) × (h .bit ≡ j) × (h .image ≡ octetsOf 16 (λ n. bitAt (octets ++ o ∷ []) (position + n)))
+heard-in-last-octet {octets} {s} {o} f x small position j least most ends good =
+    let p = octet.heard-in-last-octet (octets ++ o ∷ []) small position (length octets) j least most ends good in
+    let e = as-fed f x in
+    (ap (λ (h : HeardOctet). h .frame) e ∙ p .0, ap (λ (h : HeardOctet). h .bit) e ∙ p .1, ap (λ (h : HeardOctet). h .image) e ∙ p .2)
+
+-- no two overlap: the last bits of two frames handed over lie at least 128 apart
+pub octets-apart : {octets : List ℕ} (more : List ℕ) {s t : OctetReceiver} {o p : ℕ} {h g : HeardOctet} → FedOctets octets s → Takes s o h → h .frame ≡ true
+    → FedOctets ((octets ++ o ∷ []) ++ more) t → Takes t p g → g .frame ≡ true → AreOctets (((octets ++ o ∷ []) ++ more) ++ p ∷ [])
+    → 8 * length octets + h .bit + 128 ≤ 8 * length ((octets ++ o ∷ []) ++ more) + g .bit
+octets-apart {octets} more {s} {t} {o} {p} {h} {g} f x e u y d small =
+    let come = octets ++ o ∷ [] in
+    let most = come ++ more in
+    let one : length come ≡ suc (length octets) = omega (arith, length-append octets (o ∷ [])) in
+    let later : length octets < length most = omega (arith, one, length-append come more) in
+    let first : h ≡ heardAt (most ++ p ∷ []) (length octets) =
+    as-fed f x ∙ sym (octet-calls.heard-before come more (length octets) (omega (arith, one))) ∙ sym (octet-calls.heard-before most (p ∷ []) (length octets) later) in
+    let second : g ≡ heardAt (most ++ p ∷ []) (length most) = as-fed u y in
+    let one-heard : heardAt (most ++ p ∷ []) (length octets) .frame ≡ true = sym (ap (λ (h : HeardOctet). h .frame) first) ∙ e in
+    let two-heard : heardAt (most ++ p ∷ []) (length most) .frame ≡ true = sym (ap (λ (h : HeardOctet). h .frame) second) ∙ d in
+    omega (
+      arith,
+      octet.octets-apart (most ++ p ∷ []) small (length octets) (length most) later one-heard two-heard,
+      ap (λ (h : HeardOctet). h .bit) first,
+      ap (λ (h : HeardOctet). h .bit) second,
+    )

@@ -47,7 +47,8 @@ use Rattle.shift.specs.declared.Position.the-variants.{At, Nowhere}
 use Rattle.relay.specs.Relay.{firstMessage, secondMessage, relayRefusal, relayImage}
 use Rattle.frame.proofs.FrameLaws.{good-ext, verdict-by}
 use Rattle.line.proofs.Demand3.{ends-in}
-use Rattle.line.proofs.OfCalls.{Fed, fed-run}
+use Rattle.line.proofs.OfCalls.{Fed}
+use Rattle.line.proofs.OfCalls as line-calls
 use Rattle.octets.proofs.OfCalls.{FedOctets, fed-octets-run}
 use Rattle.octets.proofs.OfCalls as octet-calls
 use Rattle.octets.proofs.Equality as equal
@@ -129,7 +130,7 @@ equality {ls} {octets} {s} {t} {l} {o} {h} {g} f x u y small j level least most 
 )
   where
     stepped-as : h ≡ heardOf (run ls) l
-    stepped-as = stepped x ∙ ap (λ (s : Receiver). heardOf s l) (fed-run f)
+    stepped-as = line-calls.next-heard l f (stepped x)
 
     heard : g ≡ heardAt (octets ++ o ∷ []) (length octets)
     heard = octet-calls.next-heard octets o (fed-octets-run u) (taken y)
@@ -235,7 +236,7 @@ module _ {image : List ℕ} {previous : ℕ} {buffer after : List ℕ} (x : Send
   nothing-heard {ls} {s} {l} i few before e f y =
       let here : before ++ wrongAt i ≡ before ++ changedAt i (previous ∷ sendLevels image previous buffer) =
       ap (λ (t : List ℕ). before ++ changedAt i (previous ∷ t)) (sent x .1) in
-      let q = stepped y ∙ ap (λ (s : Receiver). heardOf s l) (fed-run f)
+      let q = line-calls.next-heard l f (stepped y)
       ∙ wrong.nothing-heard image (passed .0) previous (passed .1) buffer (passed .2) i few before ls l (e ∙ here) in
       (ap (λ (h : Heard). h .frame) q, ap (λ (h : Heard). h .image) q)
 

@@ -6,7 +6,7 @@ use mathlib.Core.List.{List, [], _∷_, _++_}
 use Prim.Native.Nat.{ℕ, zero, suc, _+_, _-_, _*_, _≤_, _<_}
 use native.Mathlib.Nat.{add-suc}
 use native.Mathlib.Omega.{arith}
-use borrow.Author.Tests.{lt-ltb, le-ltb, le-leb, lt-leb, leb-true, eq-eqb, ne-eqb}
+use borrow.Author.Tests.{lt-ltb, le-ltb, ltb-true, le-leb, lt-leb, leb-true, eq-eqb, ne-eqb}
 use lib.Dec.{ltb, leb}
 use lib.ListN.{length, getD}
 use Rattle.bits.specs.Tests.{both}
@@ -29,7 +29,7 @@ use Rattle.octets.specs.Feeding.{taken, endBit, answerAt, fedTo, heardAt
 use Rattle.octets.specs.ToldOctets.{firstBits, firstFrom, goodBit, toldFrame, octetWith, toldOctet, handedBy, framedAt, handedAt}
 use Rattle.octets.specs.declared.HeardOctet.{HeardOctet}
 use Rattle.octets.proofs.AnswerLaws.{bit-le}
-use Rattle.octets.proofs.Equality.{equality}
+use Rattle.octets.proofs.Equality.{handed-means, equality}
 
 -- ---- some levels decode to any octets' bits, so the equality speaks of every run of octets
 
@@ -97,31 +97,41 @@ module _ (octets : List ℕ) (small : AreOctets octets) where
 
   -- each good frame is heard in the octet of its last bit, and at that bit
   pub heard-in-last-octet : (position k j : ℕ) → 1 ≤ j → j ≤ 8 → position + 128 ≡ 8 * k + j → goodFrame (frameAt octets position) ≡ true
-      → handedAt (heardAt octets k) j ≡ record { frame = true; image = octetsOf 16 (frameAt octets position) }
+      → (heardAt octets k .frame ≡ true) × (heardAt octets k .bit ≡ j) × (heardAt octets k .image ≡ octetsOf 16 (frameAt octets position))
   heard-in-last-octet position k j p q at good =
       let e : 8 * k + j - 128 ≡ position = omega arith in
       let g : endsGood (firstBits octets (8 * k + j)) ≡ true =
       ends-at octets (8 * k + j)
       ∙ ap₂ both (le-leb 128 (8 * k + j) (omega arith)) (ap (λ (m : ℕ). goodFrame (frameAt octets m)) e ∙ good) in
-      octets-told k j p q
+      handed-means (heardAt octets k) j
+      (octets-told k j p q
       ∙ rw g
       (ap (λ (image : List ℕ). record { frame = true; image = image })
-      (octets-ext 16 _ _ (λ n a b. last-bit octets (8 * k + j) (omega arith) n a b ∙ ap (λ (m : ℕ). frameAt octets m n) e)))
+      (octets-ext 16 _ _ (λ n a b. last-bit octets (8 * k + j) (omega arith) n a b ∙ ap (λ (m : ℕ). frameAt octets m n) e))))
 
-  -- a frame is handed over only where a good one ends
-  framed-means : (k j : ℕ) → 1 ≤ j → j ≤ 8 → framedAt (heardAt octets k) j ≡ true
-      → (128 ≤ 8 * k + j) × (goodFrame (frameAt octets (8 * k + j - 128)) ≡ true)
-  framed-means k j p q f =
-      let b = both-true {a = leb 128 (8 * k + j)} {b = goodFrame (frameAt octets (8 * k + j - 128))} (sym (octets-good k j p q) ∙ f) in
-      (leb-true _ _ (b .0), b .1)
+  -- a frame is handed over only where a good one ends, at one of bits 1 to 8
+  framed-means : (k : ℕ) → heardAt octets k .frame ≡ true
+      → (1 ≤ heardAt octets k .bit)
+      × (heardAt octets k .bit ≤ 8)
+      × (128 ≤ 8 * k + heardAt octets k .bit)
+      × (goodFrame (frameAt octets (8 * k + heardAt octets k .bit - 128)) ≡ true)
+  framed-means k f =
+      let j = heardAt octets k .bit in
+      let least : 1 ≤ j = ltb-true 0 j f in
+      let most : j ≤ 8 = bit-le (fedTo octets k .window) (getD octets k 0) in
+      let b = both-true {a = leb 128 (8 * k + j)} {b = goodFrame (frameAt octets (8 * k + j - 128))}
+      (sym (octets-good k j least most) ∙ ap₂ both f (eq-eqb j j refl)) in
+      (least, most, leb-true _ _ (b .0), b .1)
 
   -- two frames that it hands over share no bit
-  pub octets-apart : (k j m i : ℕ) → 1 ≤ j → j ≤ 8 → 1 ≤ i → i ≤ 8 → 8 * k + j < 8 * m + i
-      → framedAt (heardAt octets k) j ≡ true → framedAt (heardAt octets m) i ≡ true → 8 * k + j + 128 ≤ 8 * m + i
-  octets-apart k j m i p q r s l f g =
-      let a = framed-means k j p q f in
-      let b = framed-means m i r s g in
-      omega (arith, apart (bitAt octets) (8 * k + j - 128) (8 * m + i - 128) (a .1) (b .1) (omega (arith, a .0, b .0)), a .0, b .0)
+  pub octets-apart : (k m : ℕ) → k < m → heardAt octets k .frame ≡ true → heardAt octets m .frame ≡ true
+      → 8 * k + heardAt octets k .bit + 128 ≤ 8 * m + heardAt octets m .bit
+  octets-apart k m l f g =
+      let j = heardAt octets k .bit in
+      let i = heardAt octets m .bit in
+      let a = framed-means k f in
+      let b = framed-means m g in
+      omega (arith, apart (bitAt octets) (8 * k + j - 128) (8 * m + i - 128) (a .3) (b .3) (omega (arith, a .1, a .2, b .0, b .2)), a .2, b .2)
 
 -- ---- the whole answer to an octet
 

@@ -13,7 +13,7 @@ use Rattle.bits.specs.Tests.{pick, both}
 use Rattle.bits.specs.Numbers.{tab}
 use Rattle.bits.specs.Octets.{AreOctets, bitAt}
 use Rattle.line.specs.Levels.{decoded}
-use Rattle.line.specs.Machine.{noImage, handedOf, freshOf, heardOf, run}
+use Rattle.line.specs.Machine.{noImage, handedOf, heardOf, run}
 use Rattle.line.specs.declared.Handed.{Handed}
 use Rattle.line.specs.declared.Window.{Window}
 use Rattle.bits.proofs.TestLaws.{both-true, both-false, clash}
@@ -21,8 +21,9 @@ use Rattle.bits.proofs.NumberLaws.{tab-more}
 use Rattle.bits.proofs.OctetLaws.{bit-in}
 use Rattle.line.proofs.WindowLaws.{valFrom, val-snoc, Low, windowOf, low-is}
 use Rattle.line.proofs.Holding.{idle, run-window, heard-answer}
-use Rattle.octets.specs.Feeding.{taken, endsAt, lastThat, endBit, answerAt, freshOctets, fedTo, heardAt}
+use Rattle.octets.specs.Feeding.{taken, endsAt, lastThat, endBit, answerAt, fedTo, heardAt}
 use Rattle.octets.specs.ToldOctets.{firstBits, handedBy, framedAt, handedAt}
+use Rattle.octets.specs.declared.HeardOctet.{HeardOctet}
 use Rattle.octets.proofs.TakeLaws.{one-more, taken-low}
 use Rattle.octets.proofs.AnswerLaws.{bit-is}
 
@@ -41,10 +42,6 @@ val-octet a octets k h (suc j) l =
     ∙ val-snoc a (firstBits octets (8 * k + j)) (bitAt octets (8 * k + j + 1))
     ∙ ap₂ (λ (m n : ℕ). m * 2 + n) (val-octet a octets k h j (omega arith)) (bit-in octets k j (omega arith))
     ∙ one-more v (getD octets k 0) j (omega arith)
-
--- the fresh states agree
-pub fresh-same : freshOctets .window ≡ freshOf .window
-fresh-same = refl
 
 module _ (octets : List ℕ) (small : AreOctets octets) where
   -- a window that holds the first 8 k bits, with j bits more
@@ -103,6 +100,14 @@ answer-at w o a b octet j p q = go (endsAt w o j) refl
     go true g = rw (bit-is w o a b octet j p q g, g, lt-ltb 0 j p, eq-eqb j j refl)
     go false g = rw (ne-eqb (endBit w o) j (λ e. clash (bit-passes w o j p e) g), both-false, g)
 
+-- an answer that hands over a frame at bit j
+pub handed-means : (h : HeardOctet) (j : ℕ) {image : List ℕ} → handedAt h j ≡ record { frame = true; image = image }
+    → (h .frame ≡ true) × (h .bit ≡ j) × (h .image ≡ image)
+handed-means h j e =
+    let g : framedAt h j ≡ true = ap (λ (x : Handed). x .frame) e in
+    let p = both-true {a = h .frame} {b = eqb (h .bit) j} g in
+    (p .0, eqb-true _ _ (p .1), sym (ap (λ (t : Bool). pick t (h .image) noImage) g) ∙ ap (λ (x : Handed). x .image) e)
+
 -- ---- the equality
 
 -- For any run of octets, and levels whose decoded bits are the bits of octets 0 to k - 1 and then the first j bits of octet k: at its
@@ -119,9 +124,7 @@ module _ (octets : List ℕ) (small : AreOctets octets) (ls : List ℕ) (l k j :
   pub heard-by-octet : heardOf (run ls) l .frame ≡ true
       → (heardAt octets k .frame ≡ true) × (heardAt octets k .bit ≡ j) × (heardAt octets k .image ≡ heardOf (run ls) l .image)
   heard-by-octet f =
-      let g : framedAt (heardAt octets k) j ≡ true = sym (ap (λ (h : Handed). h .frame) equality) ∙ f in
-      let p = both-true {a = heardAt octets k .frame} {b = eqb (heardAt octets k .bit) j} g in
-      (p .0, eqb-true _ _ (p .1), sym (ap (λ (h : Handed). h .image) equality ∙ ap (λ (t : Bool). pick t (heardAt octets k .image) noImage) g))
+      handed-means (heardAt octets k) j (sym equality ∙ ap (λ (t : Bool). record { frame = t; image = heardOf (run ls) l .image }) f)
 
   -- and if the octet receiver answers bit j, the first receiver hands over a frame, the same sixteen octets
   pub heard-by-level : heardAt octets k .frame ≡ true → heardAt octets k .bit ≡ j

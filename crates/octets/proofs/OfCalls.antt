@@ -2,7 +2,7 @@
 -- octets. Assumes nothing.
 use mathlib.Core.Path.{_≡_, refl, sym, ap, ap₂, subst, _∙_}
 use mathlib.Core.List.{List, [], _∷_, _++_, append-assoc, append-nil}
-use Prim.Native.Nat.{ℕ, zero, suc, _≤_}
+use Prim.Native.Nat.{ℕ, zero, suc, _≤_, _<_}
 use native.Mathlib.Nat.{add-zero}
 use native.Mathlib.Omega.{arith}
 use contract.Lifetimes.{Lfts}
@@ -29,6 +29,9 @@ unfolding fedTo
 fed-before octets more zero h = refl
 fed-before octets more (suc k) h =
     ap₂ (λ (s : OctetReceiver) (o : ℕ). heardOctet s o .receiver) (fed-before octets more k (omega arith)) (List·getD-append octets more 0 k h)
+
+pub heard-before : (octets more : List ℕ) (k : ℕ) → k < length octets → heardAt (octets ++ more) k ≡ heardAt octets k
+heard-before octets more k h = ap₂ heardOctet (fed-before octets more k (omega arith)) (List·getD-append octets more 0 k h)
 
 -- what `step` answers to one octet more
 pub next-heard : (octets : List ℕ) (o : ℕ) {s : OctetReceiver} {h : HeardOctet}

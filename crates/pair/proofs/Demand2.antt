@@ -237,8 +237,3 @@ module _ (first second : Message) where
     -- an image that opens, and has no digit left in an absent mode's code, is its own zeroed image
     pub clear-zeroed : zeroedImage image ≡ image
     clear-zeroed = clear-own image (size first second image opens) octets (good first second image opens) clear
-
-    -- so it closes to the same sixteen octets
-    pub clear-closes : (buffer : List ℕ) → length buffer ≡ 16
-        → (closeRefusal first second buffer ≡ numbered success) × (closeImage first second buffer ≡ image)
-    clear-closes buffer sixteen = let c = opened-closes first second image opens buffer sixteen in (c .0, c .1 ∙ clear-zeroed)

@@ -82,10 +82,6 @@ module _ (image : List ℕ) where
       two-told (BeginsInside v) (BeginsInside w) (wordTrouble v) (wordTrouble w) (content-first (wordKind v) v) (content-first (wordKind w) w) place c b
       (first-told (openChecks image) refl place c b (sym tells ∙ ap refusalInOpened e) .1 .1 .1 .1 .1 .1 .1)
 
-  pub open-not-wide : (place b : ℕ) → openOf image ≡ Refused (insideAt place TooWide b) → ⊥
-  open-not-wide place b e =
-      ⊎-elim (λ p. narrow (firstWord image) b (p .1 .0)) (λ p. narrow (secondWord image) b (p .2 .0)) (open-first place TooWide b e)
-
 -- ---- closing
 
 -- a message holds no pattern and no spare bits
@@ -114,8 +110,5 @@ module _ (first second : Message) (buffer : List ℕ) where
       (first-told (closeChecks first second buffer) refl place c b e .1 .1)
 
   -- closing tells 14 or 15
-  pub close-value : (place : ℕ) (c : Cause) (b : ℕ) → closeRefusal first second buffer ≡ insideAt place c b → (c ≡ Unused) ⊎ (c ≡ TooWide)
-  close-value place c b e = ⊎-elim (λ p. value first c b (p .1 .0)) (λ p. value second c b (p .2 .0)) (close-first place c b e)
-
   pub close-numbers : AllNumbered 14 15 (closeChecks first second buffer)
   close-numbers = (message-number first, (message-number second, tt))

@@ -1,11 +1,9 @@
 -- The definition's pair table as a grid, which the proof of `is_pair` holds the code's grid against, entry by entry. Assumes nothing.
-use mathlib.Core.Path.{_≡_, refl, ap, _∙_}
-use mathlib.Core.Bool.{Bool, true, false}
+use mathlib.Core.Path.{_≡_, ap, _∙_}
+use mathlib.Core.Bool.{Bool, false}
 use mathlib.Core.List.{List, [], map}
 use Prim.Native.Nat.{ℕ}
-use lib.Dec.{eqb}
-use lib.ListN.{length, getD}
-use Rattle.bits.specs.Tests.{both, every}
+use lib.ListN.{getD}
 use Rattle.kind.specs.Layouts.{allKinds, numberOf}
 use Rattle.kind.specs.declared.Kind.{Kind}
 use Rattle.pair.specs.Pairs.{pairOf}
@@ -22,8 +20,3 @@ pub pair-at : (a b : Kind) → entry (numberOf a) (numberOf b) ≡ pairOf a b
 unfolding pairs
 pair-at a b =
     ap (λ (row : List Bool). getD row (numberOf b) false) (row-at (λ (first : Kind). map (pairOf first) allKinds) a []) ∙ row-at (pairOf a) b false
-
--- as many rows as kinds, and as many columns
-pub grid-square : both (eqb (length pairs) (length allKinds)) (every (λ row. eqb (length (getD pairs row [])) (length allKinds)) (length allKinds)) ≡ true
-unfolding pairs every
-grid-square = refl
