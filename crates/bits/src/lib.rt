@@ -1,5 +1,7 @@
 // Numbers made of bits, for any width. Nothing here knows of Link 1.
 
+#![tactic(auto)]
+
 ghost use Rattle.std.specs.Prelude.{◌≡◌, ◌+◌, ◌*◌, ◌≤◌, ◌<◌, ◌^◌, ltb, length};
 ghost use Rattle.std.specs.Int.Signed.{mag};
 ghost use Rattle.bits.specs.Numbers.{bit, field_of, placed_of};
