@@ -6,7 +6,7 @@ ghost use Rattle.capture.specs.Search.{refusal_in_found, search_of};
 use refusal::Refusal;
 
 // What a search answers: the position of the first good frame, or the refusal.
-#[derive(Drop)]
+#[derive(Clone, Copy)]
 pub enum Found {
     At(usize),
     Refused(Refusal),

@@ -6,7 +6,7 @@ ghost use Rattle.kind.specs.Labels.{kind_from, labelled_of, refusal_in_named, na
 
 use refusal::Refusal;
 
-#[derive(Drop)]
+#[derive(Clone, Copy)]
 pub enum Kind {
     Blank,
     S0,
@@ -21,14 +21,14 @@ pub enum Kind {
 }
 
 // The kind that a label names.
-#[derive(Drop)]
+#[derive(Clone, Copy)]
 pub enum Labelled {
     Known(Kind),
     Unknown,
 }
 
 // A kind's layout above the label: the width and the rule of each field, with zeros behind the last.
-#[derive(Drop)]
+#[derive(Clone, Copy)]
 pub struct Table {
     pub count: usize,
     pub widths: [u32; 12],
@@ -92,7 +92,7 @@ pub fn find_kind(word: u64) -> Labelled
 }
 
 // The kind of a label, or the refusal.
-#[derive(Drop)]
+#[derive(Clone, Copy)]
 pub enum Named {
     Kind(Kind),
     Refused(Refusal),

@@ -1,12 +1,14 @@
 // Fields side by side in a word: what is wrong with them by their rules, and values packed into one. Nothing here knows of Link 1.
 
+#![tactic(auto)]
+
 ghost use Rattle.std.specs.Prelude.{◌≡◌, ◌+◌, ◌≤◌, ◌<◌, ◌^◌, length};
 ghost use Rattle.bits.specs.Numbers.{field_of};
 ghost use Rattle.layout.specs.Trouble.{agreeing, differing};
 ghost use Rattle.layout.specs.Rules.{rule_trouble, rule_misfit, total, ruled, packed_of};
 
 // Why the bits of a field, or a value for it, are refused.
-#[derive(Drop)]
+#[derive(Clone, Copy)]
 pub enum Cause {
     Pattern,
     Spare,
@@ -15,7 +17,7 @@ pub enum Cause {
 }
 
 // Nothing is wrong, or the cause and the bit where it begins. The lowest bit of a word is bit 1.
-#[derive(Drop)]
+#[derive(Clone, Copy)]
 pub enum Trouble {
     Nothing,
     Wrong(Cause, u8),
@@ -109,7 +111,7 @@ pub fn find_trouble(word: u64, low: u32, widths: &[u32], rules: &[u64]) -> Troub
 }
 
 // A word that was packed, or what is first wrong.
-#[derive(Drop)]
+#[derive(Clone, Copy)]
 pub enum Packed {
     Word(u64),
     Wrong(Cause, u8),

@@ -7,7 +7,7 @@ ghost use Rattle.line.specs.Machine.{pushed, window_image, idle_window, handed_o
 use refusal::Refusal;
 
 // The last 128 bits: the oldest weighs most in `older`, the newest least in `newer`.
-#[derive(Drop)]
+#[derive(Clone, Copy)]
 pub struct Window {
     pub older: u64,
     pub newer: u64,
@@ -63,7 +63,7 @@ pub fn idle() -> Window
 }
 
 // What a window gives: its sixteen octets if they are a good frame, else zero octets.
-#[derive(Drop)]
+#[derive(Clone, Copy)]
 pub struct Handed {
     pub frame: bool,
     pub image: [u8; 16],
@@ -95,7 +95,7 @@ pub fn hand_over(window: Window) -> Handed
 }
 
 // A receiver: whether a level has come, the last one, and the window.
-#[derive(Drop)]
+#[derive(Clone, Copy)]
 pub struct Receiver {
     pub started: bool,
     pub last: u8,
@@ -103,7 +103,7 @@ pub struct Receiver {
 }
 
 // What a level is answered: the receiver to go on with, the refusal, and the frame handed over, if any.
-#[derive(Drop)]
+#[derive(Clone, Copy)]
 pub struct Heard {
     pub receiver: Receiver,
     pub refusal: Refusal,

@@ -8,14 +8,14 @@ use refusal::Refusal;
 use units::{AltSteps, LinkSteps};
 
 // A mode of S.3: absent, or present with its code.
-#[derive(Drop)]
+#[derive(Clone, Copy)]
 pub enum Mode {
     Absent,
     Present(u16),
 }
 
 // S.3, the IFF/SIF message.
-#[derive(Drop)]
+#[derive(Clone, Copy)]
 pub struct Iff {
     pub mode3a: Mode,
     pub request: u8,
@@ -26,7 +26,7 @@ pub struct Iff {
 }
 
 // S.4, S.4+, S.8 and S.8+, the basic track data messages.
-#[derive(Drop)]
+#[derive(Clone, Copy)]
 pub struct Track {
     pub number: u16,
     pub quality: u8,
@@ -35,7 +35,7 @@ pub struct Track {
 }
 
 // S.5, the amplifying track data message. Velocities are in 1/128 data mile a second; the special-use fields are named by their lowest bit.
-#[derive(Drop)]
+#[derive(Clone, Copy)]
 pub struct Amplifying {
     pub altitude: AltSteps,
     pub strength: u8,
@@ -51,7 +51,7 @@ pub struct Amplifying {
 }
 
 // S.6, the strobe data message. The azimuth is in 1/4096 of a turn, the age in seconds.
-#[derive(Drop)]
+#[derive(Clone, Copy)]
 pub struct Strobe {
     pub acquisition: bool,
     pub width: u8,
@@ -66,7 +66,7 @@ pub struct Strobe {
 }
 
 // S.9, the area corner point message: an area of the site and a corner of the area, each counted from 0.
-#[derive(Drop)]
+#[derive(Clone, Copy)]
 pub struct Corner {
     pub area: u8,
     pub site: u8,
@@ -76,7 +76,7 @@ pub struct Corner {
     pub y: LinkSteps,
 }
 
-#[derive(Drop)]
+#[derive(Clone, Copy)]
 pub enum Message {
     Blank,
     S0,
@@ -91,14 +91,14 @@ pub enum Message {
 }
 
 // What a word of a known kind holds: a message, or what is wrong inside it.
-#[derive(Drop)]
+#[derive(Clone, Copy)]
 pub enum Content {
     Good(Message),
     Refused(Refusal),
 }
 
 // The word of a message, or what is wrong inside it.
-#[derive(Drop)]
+#[derive(Clone, Copy)]
 pub enum Encoded {
     Word(u64),
     Refused(Refusal),

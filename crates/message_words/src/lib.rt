@@ -92,7 +92,7 @@ fn read(line: &[u8], k: usize) -> Message {
 }
 
 // The numbers of a message's fields: `count` of them, with zeros behind.
-#[derive(Drop)]
+#[derive(Clone, Copy)]
 struct Fields {
     count: usize,
     numbers: [u64; 11],
@@ -209,7 +209,7 @@ fn fields_of(m: Message) -> Fields {
 
 // A walk over a message's words and numbers. It tells them, or holds them against the parts of a line: what is understood is what would be
 // told.
-#[derive(Drop)]
+#[derive(Clone, Copy)]
 struct Walk {
     telling: bool,
     part: usize,
@@ -323,7 +323,7 @@ fn behind(w: Walk) -> usize {
 }
 
 // A message that a line says, and the part behind it; 0 where it says none.
-#[derive(Drop)]
+#[derive(Clone, Copy)]
 pub struct Said {
     pub message: Message,
     pub next: usize,
@@ -338,7 +338,7 @@ pub fn take(line: &[u8], k: usize) -> Said {
 }
 
 // A kind that a line says, likewise.
-#[derive(Drop)]
+#[derive(Clone, Copy)]
 pub struct SaidKind {
     pub kind: Kind,
     pub next: usize,

@@ -7,14 +7,14 @@ ghost use Rattle.octets.specs.OctetSteps.{lead_of, nothing_heard, heard_as};
 use line::{Handed, Window};
 
 // The receiver: the last 128 bits.
-#[derive(Drop)]
+#[derive(Clone, Copy)]
 pub struct OctetReceiver {
     pub window: Window,
 }
 
 // What an octet is answered: the receiver to go on with, and if a good frame ended in the octet, at which bit, 1 to 8, and
 // the frame; else 0 and zero octets.
-#[derive(Drop)]
+#[derive(Clone, Copy)]
 pub struct HeardOctet {
     pub receiver: OctetReceiver,
     pub frame: bool,

@@ -34,7 +34,7 @@ pub fn is_pair(first: Kind, second: Kind) -> bool
 }
 
 // What an image opens as: two messages, or the refusal.
-#[derive(Drop)]
+#[derive(Clone, Copy)]
 pub enum Opened {
     Pair(Message, Message),
     Refused(Refusal),

@@ -20,7 +20,7 @@ const TIMES: u8 = 5;
 const MOST: usize = 65664;
 
 // What is gathered: how many octets, the last of them or its first digit, and whether the part has any. `bad` is what is not understood.
-#[derive(Drop)]
+#[derive(Clone, Copy)]
 struct Gathered {
     mode: u8,
     last: u8,

@@ -6,7 +6,7 @@ ghost use Rattle.position.specs.Positions.{track_position, corner_position, posi
 use message::{Corner, Message, Track};
 use units::LinkSteps;
 
-#[derive(Drop)]
+#[derive(Clone, Copy)]
 pub enum Position {
     At(LinkSteps, LinkSteps),
     Nowhere,

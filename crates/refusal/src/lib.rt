@@ -1,6 +1,8 @@
 // The numbers a caller may get back, each by its name (01, 'Numbers a caller may get back'; 02, items 4 and 6). 8 and 11 are no longer
 // given.
 
+#![tactic(auto)]
+
 ghost use Rattle.std.specs.Prelude.{◌≡◌};
 ghost use Rattle.refusal.specs.Refusals.{numbered, numbered_at, numbered_in, cause_number, inside_at};
 
@@ -37,7 +39,7 @@ pub const TOO_WIDE: u8 = 15;
 
 // The number; the message or axis that it is about, 1 or 2, of a relay's second message 3 or 4 for its axes, else 0; and of what is wrong
 // inside a message the bit where it begins, else 0. Success is 0 with place and bit 0.
-#[derive(Drop)]
+#[derive(Clone, Copy)]
 pub struct Refusal {
     pub number: u8,
     pub place: u8,

@@ -6,7 +6,7 @@ use libc::{STDERR_FILENO, STDIN_FILENO};
 use parts::show;
 
 // How much of a line has come, and whether it is longer than is taken.
-#[derive(Drop)]
+#[derive(Clone, Copy)]
 struct Line {
     length: usize,
     long: bool,
@@ -76,7 +76,7 @@ fn feed(given: Line, chunk: &[u8], line: &mut [u8], space: &mut [u8]) -> Line {
 }
 
 // The line so far, and whether the input goes on.
-#[derive(Drop)]
+#[derive(Clone, Copy)]
 struct Taken {
     more: bool,
     line: Line,

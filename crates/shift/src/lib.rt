@@ -10,21 +10,21 @@ use refusal::Refusal;
 use units::{Feet, Moved, Summed};
 
 // The sums of both lists, or the refusal of one.
-#[derive(Drop)]
+#[derive(Clone, Copy)]
 pub enum Sums {
     Of(Feet, Feet),
     Refused(Refusal),
 }
 
 // A message after the shift, or the refusal of a result.
-#[derive(Drop)]
+#[derive(Clone, Copy)]
 pub enum Shifted {
     To(Message),
     Refused(Refusal),
 }
 
 // Both messages after the shift, or the refusal of a list or a result.
-#[derive(Drop)]
+#[derive(Clone, Copy)]
 pub enum ShiftedPair {
     Of(Message, Message),
     Refused(Refusal),

@@ -51,7 +51,7 @@ fn is_frame(capture: &[u8], q: usize) -> bool
 }
 
 // What was seen: a good frame at `at`, or none before it.
-#[derive(Drop)]
+#[derive(Clone, Copy)]
 pub struct Seen {
     pub frame: bool,
     pub at: usize,

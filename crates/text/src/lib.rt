@@ -46,7 +46,7 @@ pub fn put_row(out: &mut [u8], at: usize, numbers: &[u64]) -> usize
 }
 
 // How many octets were read, and whether a read failed.
-#[derive(Drop)]
+#[derive(Clone, Copy)]
 pub struct Got {
     pub count: usize,
     pub failed: bool,
@@ -86,7 +86,7 @@ pub fn read_all(from: i32, space: &mut [u8]) -> Got
 }
 
 // What became of a program's input and output.
-#[derive(Drop)]
+#[derive(Clone, Copy)]
 pub enum Outcome {
     Written,
     Unread,

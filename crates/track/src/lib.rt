@@ -6,7 +6,7 @@ ghost use Rattle.track.specs.TrackText.{letter_of, digit_of, text_of, letter_cod
 use refusal::Refusal;
 
 // The number that a text names, or the refusal.
-#[derive(Drop)]
+#[derive(Clone, Copy)]
 pub enum Tracked {
     Number(u16),
     Refused(Refusal),

@@ -12,33 +12,33 @@ ghost use Rattle.units.specs.Heights.{height_of, refusal_in_height};
 use refusal::Refusal;
 
 // Feet.
-#[derive(Drop)]
+#[derive(Clone, Copy)]
 pub struct Feet(pub i32);
 
 // Link steps of 1/8 data mile, 750 feet.
-#[derive(Drop)]
+#[derive(Clone, Copy)]
 pub struct LinkSteps(pub i16);
 
 // Altitude steps of 375 feet.
-#[derive(Drop)]
+#[derive(Clone, Copy)]
 pub struct AltSteps(pub u16);
 
 // What a list of offsets comes to.
-#[derive(Drop)]
+#[derive(Clone, Copy)]
 pub enum Summed {
     To(Feet),
     OutOfRange,
 }
 
 // Where a position has moved to.
-#[derive(Drop)]
+#[derive(Clone, Copy)]
 pub enum Moved {
     To(LinkSteps),
     OutOfRange,
 }
 
 // The altitude of so many feet, or the refusal.
-#[derive(Drop)]
+#[derive(Clone, Copy)]
 pub enum Height {
     At(AltSteps),
     Refused(Refusal),
