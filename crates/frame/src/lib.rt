@@ -1,6 +1,8 @@
 // The transmission frame: 128 bits with a start group, marks, check bits and two messages of 49 bits
 // (001, Annex A, Appendix 3).
 
+#![tactic(auto)]
+
 ghost use Rattle.std.specs.Prelude.{◌≡◌, ◌+◌, ◌*◌, ◌≤◌};
 ghost use Rattle.std.specs.Int.Count.{count_leading_zeros};
 ghost use Rattle.bits.specs.Numbers.{num_of};
