@@ -1,5 +1,7 @@
 // The two messages of a frame as words of 49 bits, taken out of an image and put into one (001, Annex A, Appendix 3).
 
+#![tactic(auto)]
+
 ghost use Rattle.std.specs.Prelude.{◌≡◌, ◌≤◌, length};
 ghost use Rattle.bits.specs.Numbers.{tab};
 ghost use Rattle.bits.specs.Octets.{bit_at};

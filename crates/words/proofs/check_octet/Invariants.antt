@@ -1,0 +1,28 @@
+-- `words::check_octet` meets its contract. The loop's invariant: the number holds the check bits passed. Assumes nothing.
+use mathlib.Core.List.{List}
+use mathlib.Core.Path.{◌≡◌, refl, sym, ap, ◌∙◌}
+use Prim.Native.Nat.{ℕ, ◌+◌, ◌-◌, ◌*◌, ◌%◌, ◌^◌, ◌≤◌, ◌<◌}
+use native.Mathlib.Nat.{mod-lt}
+use native.Mathlib.Omega.{arith}
+use borrow.Author.Rules.{rules}
+use lib.Bits.{bit_or}
+use lib.Count.{ones, ones-le}
+use lib.Dec.{lit<}
+use Rattle.bits.specs.Numbers.{num_of}
+use Rattle.bits.specs.Octets.{bit_at}
+use Rattle.bits.specs.Tests.{every}
+use Rattle.frame.specs.Frame.{column_of}
+use Rattle.bits.proofs.NumberLaws.{num_none, num_turn, num_lt}
+use Rattle.bits.proofs.TestLaws.{rule_at}
+use Rattle.frame.proofs.FrameLaws.{column_ones, frame_0}
+use Rattle.words.proofs.check_octet.Given as goal
+
+-- the bit of weight 2 ^ i among the check bits
+abbrev pub check_at : List ℕ → ℕ → ℕ
+check_at s i = (column_of (bit_at s) (6 - i) + 1) % 2
+
+abbrev pub invariant-loop-i : goal.invariant-loop-i
+invariant-loop-i l = (l.i ≤ 6) × (l.checks ≡ num_of (check_at l.image) l.i)
+
+abbrev pub decreases-loop-i : goal.decreases-loop-i
+decreases-loop-i l = 6 - l.i

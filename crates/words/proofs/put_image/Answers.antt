@@ -1,0 +1,33 @@
+-- `words::put_image` meets its contract. Assumes nothing.
+use mathlib.Core.List.{List}
+use mathlib.Core.Path.{◌≡◌, sym, ap, ap₂, ◌∙◌}
+use Prim.Native.Nat.{ℕ, ◌<◌}
+use native.Mathlib.Omega.{arith}
+use borrow.Author.Rules.{rules}
+use lib.ListN.{length, set, length-set}
+use Rattle.words.specs.Packing.{message_stored, check_octet}
+use Rattle.words.proofs.PackingLaws.{stored, image_stored}
+use Rattle.words.proofs.put_image.Goals as goal
+
+-- sixteen octets have octet 15, also after a store
+last-there : (s : List ℕ) (i x : ℕ) → length s ≡ 16 → 15 < length (set s i x)
+last-there s i x e = omega (arith, length-set s i x, e)
+
+pub bounds-image-15-2 : goal.bounds-image-15-2
+bounds-image-15-2 c = let d = c.put_message-2 in last-there d.new.image _ _ d.ensures.1
+
+pub shape_of-image : goal.shape_of-image
+shape_of-image c =
+    let d = c.put_message-2 in
+    length-set (set d.new.image _ _) 15 c.check_octet-check.result ∙ length-set d.new.image _ _ ∙ d.ensures.1
+    ∙ sym c.requires
+
+pub returns : goal.returns
+returns c =
+    let second = c.put_message-2 in
+    let first = c.put_message in
+    let begin = c in
+    let a = begin.args in
+    let e : set second.new.image 15 0 ≡ stored a.image.now a.first a.second =
+    ap (λ (l : List ℕ). set l 15 0) (second.ensures.0 ∙ ap (λ (l : List ℕ). message_stored l 2 a.second) first.ensures.0) in
+    ap₂ (λ (l : List ℕ) (x : ℕ). set l 15 x) e (c.check_octet-check.ensures ∙ ap check_octet e) ∙ image_stored a.first a.second a.image.now begin.requires

@@ -1,0 +1,20 @@
+-- `words::put_message` meets its contract. The loop's invariant: the groups passed are stored. Assumes nothing.
+use mathlib.Core.Path.{◌≡◌, sym, ap, ◌∙◌}
+use Prim.Native.Nat.{◌+◌, ◌-◌, ◌≤◌}
+use native.Mathlib.Nat.{mod-lt}
+use native.Mathlib.Omega.{arith}
+use borrow.Author.Rules.{rules}
+use lib.Dec.{lit<}
+use lib.ListN.{length, set}
+use Rattle.bits.specs.Numbers.{written}
+use Rattle.words.specs.Packing.{data_group, data_octet}
+use Rattle.bits.proofs.NumberLaws.{written_none, written_more}
+use Rattle.words.proofs.PackingLaws.{group_written}
+use Rattle.words.proofs.put_message.Given as goal
+
+abbrev pub invariant-loop-group : goal.invariant-loop-group
+invariant-loop-group l =
+    (1 ≤ l.group) × (l.group ≤ 8) × (length l.image ≡ 16) × (l.image ≡ written l.initial.image (data_group l.k 1) (λ i. data_octet l.word (i + 1)) (l.group - 1))
+
+abbrev pub decreases-loop-group : goal.decreases-loop-group
+decreases-loop-group l = 8 - l.group
