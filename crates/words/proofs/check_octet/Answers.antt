@@ -1,7 +1,7 @@
 -- `words::check_octet` meets its contract. The loop's invariant: the number holds the check bits passed. Assumes nothing.
 use mathlib.Core.List.{List}
 use mathlib.Core.Path.{◌≡◌, refl, sym, ap, ◌∙◌}
-use Prim.Native.Nat.{ℕ, ◌+◌, ◌-◌, ◌*◌, ◌%◌, ◌^◌, ◌≤◌, ◌<◌}
+use Prim.Native.Nat.{ℕ, ◌+◌, ◌-◌, ◌*◌, ◌%◌, ◌^◌, ◌<◌}
 use native.Mathlib.Nat.{mod-lt}
 use native.Mathlib.Omega.{arith}
 use borrow.Author.Rules.{rules}
@@ -9,7 +9,6 @@ use lib.Bits.{bit_or}
 use lib.Count.{ones, ones-le}
 use lib.Dec.{lit<}
 use Rattle.bits.specs.Numbers.{num_of}
-use Rattle.bits.specs.Octets.{bit_at}
 use Rattle.bits.specs.Tests.{every}
 use Rattle.frame.specs.Frame.{column_of}
 use Rattle.bits.proofs.NumberLaws.{num_none, num_turn, num_lt}

@@ -1,20 +1,10 @@
 -- `words::check_octet` meets its contract. The loop's invariant: the number holds the check bits passed. Assumes nothing.
 use mathlib.Core.List.{List}
-use mathlib.Core.Path.{◌≡◌, refl, sym, ap, ◌∙◌}
-use Prim.Native.Nat.{ℕ, ◌+◌, ◌-◌, ◌*◌, ◌%◌, ◌^◌, ◌≤◌, ◌<◌}
-use native.Mathlib.Nat.{mod-lt}
-use native.Mathlib.Omega.{arith}
-use borrow.Author.Rules.{rules}
-use lib.Bits.{bit_or}
-use lib.Count.{ones, ones-le}
-use lib.Dec.{lit<}
+use mathlib.Core.Path.{◌≡◌}
+use Prim.Native.Nat.{ℕ, ◌+◌, ◌-◌, ◌%◌, ◌≤◌}
 use Rattle.bits.specs.Numbers.{num_of}
 use Rattle.bits.specs.Octets.{bit_at}
-use Rattle.bits.specs.Tests.{every}
 use Rattle.frame.specs.Frame.{column_of}
-use Rattle.bits.proofs.NumberLaws.{num_none, num_turn, num_lt}
-use Rattle.bits.proofs.TestLaws.{rule_at}
-use Rattle.frame.proofs.FrameLaws.{column_ones, frame_0}
 use Rattle.words.proofs.check_octet.Given as goal
 
 -- the bit of weight 2 ^ i among the check bits

@@ -1,11 +1,11 @@
 -- `words::put_message` meets its contract. The loop's invariant: the groups passed are stored. Assumes nothing.
 use mathlib.Core.Path.{◌≡◌, sym, ap, ◌∙◌}
-use Prim.Native.Nat.{◌+◌, ◌-◌, ◌≤◌}
+use Prim.Native.Nat.{◌+◌, ◌-◌}
 use native.Mathlib.Nat.{mod-lt}
 use native.Mathlib.Omega.{arith}
 use borrow.Author.Rules.{rules}
 use lib.Dec.{lit<}
-use lib.ListN.{length, set}
+use lib.ListN.{set}
 use Rattle.bits.specs.Numbers.{written}
 use Rattle.words.specs.Packing.{data_group, data_octet}
 use Rattle.bits.proofs.NumberLaws.{written_none, written_more}

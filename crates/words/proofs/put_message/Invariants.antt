@@ -1,15 +1,9 @@
 -- `words::put_message` meets its contract. The loop's invariant: the groups passed are stored. Assumes nothing.
-use mathlib.Core.Path.{◌≡◌, sym, ap, ◌∙◌}
+use mathlib.Core.Path.{◌≡◌}
 use Prim.Native.Nat.{◌+◌, ◌-◌, ◌≤◌}
-use native.Mathlib.Nat.{mod-lt}
-use native.Mathlib.Omega.{arith}
-use borrow.Author.Rules.{rules}
-use lib.Dec.{lit<}
-use lib.ListN.{length, set}
+use lib.ListN.{length}
 use Rattle.bits.specs.Numbers.{written}
 use Rattle.words.specs.Packing.{data_group, data_octet}
-use Rattle.bits.proofs.NumberLaws.{written_none, written_more}
-use Rattle.words.proofs.PackingLaws.{group_written}
 use Rattle.words.proofs.put_message.Given as goal
 
 abbrev pub invariant-loop-group : goal.invariant-loop-group
