@@ -1,5 +1,7 @@
 // Line levels: a receiver that hears frames (001, Annex A, Appendix 3, paragraphs 4 and 5).
 
+#![tactic(auto)]
+
 ghost use Rattle.std.specs.Prelude.{◌≡◌, ◌≤◌};
 ghost use Rattle.line.specs.Levels.{differ};
 ghost use Rattle.line.specs.Machine.{pushed, window_image, idle_window, handed_of, nothing_handed, fresh_of, accepted, answer_with, heard_of};

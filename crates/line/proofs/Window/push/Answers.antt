@@ -6,14 +6,10 @@ use borrow.Author.Rules.{rules}
 use lib.Pow.{shr_lt}
 use Rattle.line.specs.declared.Window.{Window}
 use Rattle.line.proofs.WindowLaws.{shifted_in}
-use Rattle.line.proofs.Window.push.Statement.{statement}
-use Rattle.line.proofs.Window.push.Tie as tie
+use Rattle.line.proofs.Window.push.Goals as goal
 
 abbrev made : ℕ → ℕ → Window
 made older newer = record { older = older; newer = newer }
 
-returns : tie.Need-returns
+pub returns : goal.returns
 returns c = ap₂ made (shifted_in _ _ 1 (omega arith) (shr_lt 1 63 (search rules))) (shifted_in _ _ 1 (omega arith) (omega arith))
-
-pub push_spec : {M : Type 1} → statement M
-push_spec = tie.close (tie.spec returns)

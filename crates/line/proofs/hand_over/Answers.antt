@@ -18,8 +18,7 @@ use Rattle.refusal.specs.Refusals.{success}
 use Rattle.refusal.specs.declared.Refusal.{Refusal}
 use Rattle.bits.proofs.TestLaws.{never_true}
 use Rattle.frame.proofs.FrameLaws.{verdict_good, verdict_image, start_octet, mark_one}
-use Rattle.line.proofs.hand_over.Statement.{statement}
-use Rattle.line.proofs.hand_over.Tie as tie
+use Rattle.line.proofs.hand_over.Goals as goal
 
 abbrev good : Refusal → Bool
 good r = eqb r.number success
@@ -58,46 +57,18 @@ handed-is : (w : Window) (image : List ℕ) → holds_frame w ≡ true → image
     → ◌≡◌ {A = Handed} (record { frame = true; image = image }) (handed_of w)
 handed-is w image e f = rw (e, f)
 
-hold-back-requires : tie.Need-hold-back-requires
-hold-back-requires c κs = search rules
+pub returns-then-window-ne1 : goal.returns-then-window-ne1
+returns-then-window-ne1 c = c.hold_back.ensures ∙ none_is _ (not-begun _ (search rules) c.if-window-ne1.true)
 
-returns : tie.Need-returns
-returns c = c.hold-back.ensures ∙ none_is _ (not-begun _ (search rules) c.before.if1.true)
+pub returns-then-verdict-eq-SUCCESS : goal.returns-then-verdict-eq-SUCCESS
+returns-then-verdict-eq-SUCCESS c =
+    let v = c.verdict in
+    let i = c.image-image in
+    handed-is _ _ (holds-is _ i.result true i.ensures (eq-eqb _ _ (sym (ap (λ (r : Refusal). r.number) v.ensures) ∙ c.if-verdict-eq-SUCCESS.true))) i.ensures
 
-image-requires : tie.Need-image-requires
-image-requires c κs = search rules
-
-slice-aggregate-verdict : tie.Need-slice-aggregate-verdict
-slice-aggregate-verdict c = search rules
-
-verdict-requires : tie.Need-verdict-requires
-verdict-requires c κs = search rules
-
-returns-2 : tie.Need-returns-2
-returns-2 c =
-    let v = c.before.before.verdict in
-    let i = c.before.before.before.before.image in
-    handed-is _ _ (holds-is _ i.result true i.ensures (eq-eqb _ _ (sym (ap (λ (r : Refusal). r.number) v.ensures) ∙ c.if2.true))) i.ensures
-
-hold-back-requires-2 : tie.Need-hold-back-requires-2
-hold-back-requires-2 c κs = search rules
-
-returns-3 : tie.Need-returns-3
-returns-3 c =
-    let v = c.before.before.before.verdict in
-    let i = c.before.before.before.before.before.image in
-    c.hold-back2.ensures
-    ∙ none_is _ (holds-is _ i.result false i.ensures (ne_eqb _ _ (λ e. c.before.if2.false (ap (λ (r : Refusal). r.number) v.ensures ∙ e))))
-
-pub hand-over-spec : {M : Type 1} → statement M
-hand-over-spec =
-    tie.close
-    (tie.spec
-    hold-back-requires
-    returns
-    image-requires
-    slice-aggregate-verdict
-    verdict-requires
-    returns-2
-    hold-back-requires-2
-    returns-3)
+pub returns : goal.returns
+returns c =
+    let v = c.verdict in
+    let i = c.image-image in
+    c.hold_back-2.ensures
+    ∙ none_is _ (holds-is _ i.result false i.ensures (ne_eqb _ _ (λ e. c.if-verdict-eq-SUCCESS.false (ap (λ (r : Refusal). r.number) v.ensures ∙ e))))
