@@ -1,7 +1,7 @@
 -- Laws of frames. Assumes nothing.
 use mathlib.Core.Path.{◌≡◌, refl, sym, ap, ap₂, ◌∙◌}
 use mathlib.Core.Bool.{Bool, true, false}
-use mathlib.Core.List.{List, [], ◌∷◌}
+use mathlib.Core.List.{List}
 use mathlib.Core.Logic.{◌↔◌}
 use Prim.Native.Nat.{ℕ, ◌+◌, ◌-◌, ◌*◌, ◌/◌, ◌%◌, ◌≤◌, ◌<◌}
 use native.Mathlib.Nat.{zero-add}
@@ -13,10 +13,10 @@ use lib.ListN.{length, get_or}
 use Rattle.bits.specs.Tests.{both, every}
 use Rattle.bits.specs.Numbers.{num_of, sum_of}
 use Rattle.bits.specs.Octets.{bit_at}
-use Rattle.refusal.specs.Refusals.{success, bad_length, bad_start, bad_mark, bad_check, numbered}
-use Rattle.refusal.specs.Checks.{check, first_refusal}
+use Rattle.refusal.specs.Refusals.{success, bad_length, numbered}
 use Rattle.refusal.specs.declared.Refusal.{Refusal}
 use Rattle.frame.specs.Frame.{start_good, marks_good, checks_good, column_of, good_frame, frame_verdict, image_checks, verdict_of, frame_at}
+use Rattle.frame.proofs.ThreeTests.{verdict_by}
 use Rattle.bits.proofs.TestLaws.{by_lt, both_true, every_all, every_at, every_ext}
 use Rattle.refusal.proofs.CheckLaws.{Passed, success_passed, passed_success}
 use Rattle.bits.proofs.NumberLaws.{num_ext, num_ones, sum_ext, sum_more}
@@ -31,10 +31,6 @@ pub column_ones : (s : List ℕ) (p j : ℕ) → ones (num_of (λ g. frame_at s 
 column_ones s p j = num_ones (λ g. frame_at s p (8 * g + 9 + j)) 15 (λ g _. bit_lt s (p + (8 * g + 9 + j)))
 
 -- ---- the verdict by its tests
-
--- the three tests, as they came out
-abbrev verdict_by : Bool → Bool → Bool → Refusal
-verdict_by s m k = first_refusal (check s bad_start ∷ check m bad_mark ∷ check k bad_check ∷ [])
 
 pub by_tests : (b : ℕ → ℕ) {s m k : Bool} → start_good b ≡ s → marks_good b ≡ m → checks_good b ≡ k → frame_verdict b ≡ verdict_by s m k
 unfolding frame_verdict

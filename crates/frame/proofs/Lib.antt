@@ -1,3 +1,4 @@
+pub mod ThreeTests
 pub mod FrameLaws
 pub mod LeadLaws
 pub mod Images
