@@ -2,7 +2,6 @@
 use mathlib.Core.Bool.{true, false}
 use mathlib.Core.Path.{◌≡◌, ap, ◌∙◌}
 use Prim.Native.Nat.{ℕ}
-use borrow.Author.Rules.{rules}
 use Rattle.line.specs.Levels.{differ}
 use Rattle.line.specs.Machine.{pushed, accepted}
 use Rattle.line.specs.declared.Receiver.{Receiver}

@@ -1,5 +1,4 @@
 -- `line::Receiver::answer` meets its contract. Assumes nothing.
-use borrow.Author.Rules.{rules}
 use Rattle.line.proofs.Receiver.answer.Goals as goal
 
 pub returns : goal.returns
