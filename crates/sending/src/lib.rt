@@ -1,5 +1,7 @@
 // A sender of line levels (001, Annex A, Appendix 3, paragraphs 4 and 5).
 
+#![tactic(auto)]
+
 ghost use Rattle.std.specs.Prelude.{◌≡◌, ◌≤◌, length};
 ghost use Rattle.line.specs.Sending.{next, levels_after, image_bits, Sent};
 

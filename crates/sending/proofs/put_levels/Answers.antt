@@ -1,0 +1,22 @@
+-- `sending::put_levels` meets its contract. The loop's invariant: the levels passed tell the bits passed. Assumes nothing.
+use mathlib.Core.Path.{sym, ap, ◌∙◌}
+use borrow.Author.Rules.{rules}
+use Rattle.line.specs.Sending.{next}
+use Rattle.bits.proofs.NumberLaws.{get_or-tab, length_tab}
+use Rattle.line.proofs.SendingLaws.{sending_start, sending_more, sending_done}
+use Rattle.sending.proofs.put_levels.Goals as goal
+
+pub loop-i-init : goal.loop-i-init
+loop-i-init c = sending_start _ _ _ c.requires.1 c.requires.2
+
+pub loop-i-preserved : goal.loop-i-preserved
+loop-i-preserved c =
+    let a = c.args in
+    sending_more _ _ _ _ _ _ c.loop-i.invariant (search rules) (length_tab _ 128)
+    (c.tell-level.ensures.0 ∙ ap (next _) (c.bit.ensures ∙ sym (get_or-tab _ 128 _ (search rules)))) c.tell-level.ensures.1
+
+pub shape_of-levels : goal.shape_of-levels
+shape_of-levels c = c.loop-i.invariant.long ∙ sym c.requires.2
+
+pub returns : goal.returns
+returns c = sending_done _ _ _ _ _ c.loop-i.invariant (length_tab _ 128) (search rules)
