@@ -1,5 +1,7 @@
 // A receiver that is fed octets of eight decoded bits, most significant first (02, item 5).
 
+#![tactic(auto)]
+
 ghost use Rattle.std.specs.Prelude.{◌≡◌, ◌≤◌};
 ghost use Rattle.octets.specs.Feeding.{taken, heard_octet, fresh_octets};
 ghost use Rattle.octets.specs.OctetSteps.{lead_of, nothing_heard, heard_as};
