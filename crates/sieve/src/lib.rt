@@ -1,5 +1,7 @@
 // The sieve of the search: from a position of a capture to the next at which a good frame may begin, or does.
 
+#![tactic(auto)]
+
 ghost use Rattle.std.specs.Prelude.{◌≡◌, ◌+◌, ◌*◌, ◌≤◌, ◌<◌, min, length};
 ghost use Rattle.frame.specs.Frame.{LiesWhole};
 ghost use Rattle.sieve.specs.Capture.{good_at};
