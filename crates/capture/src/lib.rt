@@ -1,5 +1,7 @@
 // A capture, a run of octets of decoded bits: the search for the first good frame.
 
+#![tactic(auto)]
+
 ghost use Rattle.std.specs.Prelude.{◌≡◌};
 ghost use Rattle.capture.specs.Search.{refusal_in_found, search_of};
 
