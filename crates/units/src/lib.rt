@@ -1,6 +1,8 @@
 // Feet, link steps and altitude steps: three measures that never stand in for one another. Handing one in where another is wanted does not
 // compile; one becomes another only where it is rounded.
 
+#![tactic(auto)]
+
 ghost use Rattle.std.specs.Prelude.{◌≡◌, ◌<◌, ◌≤◌, ◌^◌, ◌+ℤ◌, length};
 ghost use Rattle.std.specs.Int.Signed.{mag};
 ghost use Rattle.std.specs.Int.{w32};

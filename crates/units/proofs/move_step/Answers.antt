@@ -10,8 +10,8 @@ use mir.Facts.{to_z-of_z}
 use Rattle.units.specs.Steps.{nearest_to}
 use Rattle.units.proofs.Parts.{add_le, mul_parts, mag_parts, parts_mag, sfits}
 use Rattle.units.proofs.Ranges.{moved_below, moved_above, moved_yes, step_fits}
-use Rattle.units.proofs.move_step.Statement.{statement}
-use Rattle.units.proofs.move_step.Tie as tie
+use Rattle.units.proofs.move_step.Goals as goal
+use Rattle.units.proofs.move_step.Goals.{After-struct_told-2-1, After-round-n}
 
 -- every position, every number of feet, and the exact sum of the two fit in 64 bits, with room for the rounding
 steps-fit : (o : ℤ) → SFits w16 o → SFits w64 o
@@ -31,30 +31,30 @@ module _ (o b : ℤ) (h : SFits w16 o) (k : SFits w32 b) where
   exact-fits = sfits w64 (pos 750 *ℤ o +ℤ b) (omega (arith, mag_parts (pos 750 *ℤ o +ℤ b) exact-small))
 
 -- the two numbers that were handed in
-old : (c : tie.After-struct-told2) → SFits w16 c.before.before.before.before.args.old.0
-old c = record { sfits = c.before.before.struct_told.given.0.1 }
+old : (c : After-struct_told-2-1) → SFits w16 c.args.old.0
+old c = record { sfits = c.struct_told-1.given.0.1 }
 
-feet : (c : tie.After-struct-told2) → SFits w32 c.before.before.before.before.args.by.0
-feet c = record { sfits = c.struct-told2.given.0.1 }
+feet : (c : After-struct_told-2-1) → SFits w32 c.args.by.0
+feet c = record { sfits = c.struct_told-2-1.given.0.1 }
 
-cast-steps : tie.Need-overflow-cast-steps
-cast-steps c =
-    let o : SFits w16 c.before.before.args.old.0 = record { sfits = c.struct_told.given.0.1 } in
+pub overflow_cast-steps : goal.overflow_cast-steps
+overflow_cast-steps c =
+    let o : SFits w16 c.args.old.0 = record { sfits = c.struct_told-1.given.0.1 } in
     simp to_z-of_z (steps-fit _ o)
 
-cast-feet : tie.Need-overflow-cast-feet
-cast-feet c =
+pub overflow_cast-feet : goal.overflow_cast-feet
+overflow_cast-feet c =
     let b = feet c in
     simp to_z-of_z (feet-fit _ b)
 
-mul-exact : tie.Need-overflow-mul-exact
-mul-exact c =
+pub overflow_mul-exact : goal.overflow_mul-exact
+overflow_mul-exact c =
     let o = old c in
     let p = steps-fit _ o in
     simp to_z-of_z (times-fit _ o)
 
-add-exact : tie.Need-overflow-add-exact
-add-exact c =
+pub overflow_add-exact : goal.overflow_add-exact
+overflow_add-exact c =
     let o = old c in
     let p = steps-fit _ o in
     let q = times-fit _ o in
@@ -62,8 +62,8 @@ add-exact c =
     let d = feet-fit _ b in
     simp to_z-of_z (exact-fits _ _ o b)
 
-round-requires : tie.Need-round-requires
-round-requires c κs =
+pub round-n-requires : goal.round-n-requires
+round-n-requires c =
     let o = old c in
     let p = steps-fit _ o in
     let q = times-fit _ o in
@@ -73,7 +73,7 @@ round-requires c κs =
     simp to_z-of_z (exact-small _ _ o b)
 
 -- what `round` gave is the nearest step, and fits
-near_is : (c : tie.After-round) → c.round.result ≡ nearest_to c.before.before.before.before.before.args.old.0 c.before.before.before.before.before.args.by.0
+near_is : (c : After-round-n) → c.round-n.result ≡ nearest_to c.args.old.0 c.args.by.0
 near_is c =
     let o = old c.before in
     let p = steps-fit _ o in
@@ -81,44 +81,30 @@ near_is c =
     let b = feet c.before in
     let d = feet-fit _ b in
     let e = exact-fits _ _ o b in
-    simp to_z-of_z at c.round.ensures
+    simp to_z-of_z at c.round-n.ensures
 
-ok : (c : tie.After-round) → SFits w64 c.round.result
-ok c = record { sfits = c.round.type-inv }
+ok : (c : After-round-n) → SFits w64 c.round-n.result
+ok c = record { sfits = c.round-n.type_inv }
 
-returns : tie.Need-returns
+pub returns-then-n-ltminus4096 : goal.returns-then-n-ltminus4096
+returns-then-n-ltminus4096 c =
+    let n = ok (goal.at.returns-then-n-ltminus4096 c).After-round-n in
+    moved_below _ _ (rw (← near_is (goal.at.returns-then-n-ltminus4096 c).After-round-n) (simp to_z-of_z at c.if-n-ltminus4096.true))
+
+pub returns-then-n-gt4095 : goal.returns-then-n-gt4095
+returns-then-n-gt4095 c =
+    let n = ok (goal.at.returns-then-n-gt4095 c).After-round-n in
+    moved_above _ _ (rw (← near_is (goal.at.returns-then-n-gt4095 c).After-round-n) (simp to_z-of_z at c.if-n-gt4095.true))
+
+pub overflow_cast-result : goal.overflow_cast-result
+overflow_cast-result c =
+    let n = ok (goal.at.overflow_cast-result c).After-round-n in
+    simp to_z-of_z (step_fits _ (simp to_z-of_z at c.if-n-ltminus4096.false) (simp to_z-of_z at c.if-n-gt4095.false))
+
+pub returns : goal.returns
 returns c =
-    let n = ok c.before in
-    moved_below _ _ (rw (← near_is c.before) (simp to_z-of_z at c.if1.true))
-
-returns-2 : tie.Need-returns-2
-returns-2 c =
-    let n = ok c.before.before in
-    moved_above _ _ (rw (← near_is c.before.before) (simp to_z-of_z at c.if2.true))
-
-cast-t9 : tie.Need-overflow-cast-t9
-cast-t9 c =
-    let n = ok c.before.before in
-    simp to_z-of_z (step_fits _ (simp to_z-of_z at c.before.if1.false) (simp to_z-of_z at c.if2.false))
-
-returns-3 : tie.Need-returns-3
-returns-3 c =
-    let n = ok c.before.before in
-    let l = simp to_z-of_z at c.before.if1.false in
-    let h = simp to_z-of_z at c.if2.false in
-    let m = step_fits c.before.before.round.result l h in
-    simp to_z-of_z (rw (near_is c.before.before) (moved_yes _ _ (rw (← near_is c.before.before) l) (rw (← near_is c.before.before) h)))
-
-pub move-step-spec : {M : Type 1} → statement M
-move-step-spec =
-    tie.close
-    (tie.spec
-    cast-steps
-    cast-feet
-    mul-exact
-    add-exact
-    round-requires
-    returns
-    returns-2
-    cast-t9
-    returns-3)
+    let n = ok (goal.at.returns c).After-round-n in
+    let l = simp to_z-of_z at c.if-n-ltminus4096.false in
+    let h = simp to_z-of_z at c.if-n-gt4095.false in
+    let m = step_fits c.round-n.result l h in
+    simp to_z-of_z (rw (near_is (goal.at.returns c).After-round-n) (moved_yes _ _ (rw (← near_is (goal.at.returns c).After-round-n) l) (rw (← near_is (goal.at.returns c).After-round-n) h)))
