@@ -1,5 +1,7 @@
 // The kinds of message: their labels and layouts (001, Annex A, Appendix 5, and Annex C, Appendices 2 and 3).
 
+#![tactic(auto)]
+
 ghost use Rattle.std.specs.Prelude.{◌≡◌, ◌<◌, length};
 ghost use Rattle.kind.specs.Layouts.{all_kinds, number_of, label_of};
 ghost use Rattle.kind.specs.Labels.{kind_from, labelled_of, refusal_in_named, named_of};

@@ -1,5 +1,7 @@
 // Track numbers and their text: two letters from A E G H J K L M and three digits 0 to 7.
 
+#![tactic(auto)]
+
 ghost use Rattle.std.specs.Prelude.{◌≡◌, ◌≤◌, ◌<◌, length};
 ghost use Rattle.track.specs.TrackText.{letter_of, digit_of, text_of, letter_code, digit_code, Spelled, is_text, code_at, refusal_in_tracked, tracked_of};
 
