@@ -1,5 +1,7 @@
 // Messages: what each kind holds (001, Annex C, Appendices 2 and 3).
 
+#![tactic(auto)]
+
 ghost use Rattle.std.specs.Prelude.{◌≡◌};
 ghost use Rattle.message.specs.Messages.{kind_of};
 

@@ -1,5 +1,7 @@
 // Where a message says that its track or corner is, and the same message elsewhere.
 
+#![tactic(auto)]
+
 ghost use Rattle.std.specs.Prelude.{◌≡◌};
 ghost use Rattle.position.specs.Positions.{track_position, corner_position, position_of, placed_track, placed_corner, placed_at};
 

@@ -1,5 +1,7 @@
 // The layouts of the kinds, as tables (001, Annex C, Appendix 2).
 
+#![tactic(auto)]
+
 ghost use Rattle.std.specs.Prelude.{◌≡◌};
 ghost use Rattle.layout.specs.Trouble.{trouble};
 ghost use Rattle.kind.specs.Layouts.{layout_of};
