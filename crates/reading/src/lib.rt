@@ -1,5 +1,7 @@
 // A word of 49 bits to a message, field by field (001, Annex C, Appendices 2 and 3).
 
+#![tactic(auto)]
+
 ghost use Rattle.std.specs.Prelude.{◌≡◌, ◌<◌, eqb};
 ghost use Rattle.layout.specs.Layout.{split};
 ghost use Rattle.bits.specs.Twos.{signed_of};

@@ -1,6 +1,8 @@
 // The shift of a message that has a position, by lists of offsets in feet; one without a position passes through. The feet are added
 // exactly and rounded once, at the end.
 
+#![tactic(auto)]
+
 ghost use Rattle.std.specs.Prelude.{◌≡◌};
 ghost use Rattle.shift.specs.Shift.{sums_of, shifted_of};
 

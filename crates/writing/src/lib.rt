@@ -1,5 +1,7 @@
 // A message to its word of 49 bits: the numbers of its fields, in the order of its layout, and the word that they are packed to.
 
+#![tactic(auto)]
+
 ghost use Rattle.std.specs.Prelude.{◌≡◌};
 ghost use Rattle.bits.specs.Numbers.{bit};
 ghost use Rattle.layout.specs.Layout.{write_as, signed};
