@@ -1,5 +1,7 @@
 // Pairs: which messages may share a frame, and what an image opens as.
 
+#![tactic(auto)]
+
 ghost use Rattle.std.specs.Prelude.{◌≡◌};
 ghost use Rattle.pair.specs.Pairs.{pair_of};
 ghost use Rattle.pair.specs.Opening.{refusal_in_opened};

@@ -1,5 +1,7 @@
 // The shift of a pair: both messages, by the same lists of offsets.
 
+#![tactic(auto)]
+
 ghost use Rattle.std.specs.Prelude.{◌≡◌};
 ghost use Rattle.shift.specs.Shift.{both_shifted, pair_shifted};
 
