@@ -9,7 +9,10 @@ use native.Mathlib.Omega.{arith}
 use borrow.Author.Tests.{lt-ltb, le-ltb}
 use lib.ListN.{length, get_or, take, length-append}
 use lib.Seq.{take-suc, take-length}
-use Rattle.io.specs.Digits.{last_digits, IsDigitCount}
+use Rattle.std.specs.Prelude.{false, ◌==◌}
+use Rattle.std.proofs.lemmas.Grind.{common_steps}
+use Rattle.std.specs.Fmt.{digits_onto, digits, decimal}
+use Rattle.text.specs.Digits.{last_digits, IsDigitCount}
 use Rattle.text.specs.Text.{dec_by, dec, dec_then, row}
 
 -- ---- the digits that `io::decimal` counts and spells
@@ -154,3 +157,43 @@ row_short k (a ∷ []) h = omega (arith, then_short k a 10 h.0)
 row_short k (a ∷ b ∷ rest) h =
     let line = row (b ∷ rest) in
     omega (arith, row_short k (b ∷ rest) h.1, then_short k a 32 h.0, mul-suc (k + 2) (length (b ∷ rest)), length-append (dec_then a 32) line)
+
+-- ---- the digits that std's `decimal` spells
+
+digits_by : (f g n : ℕ) (acc : List ℕ) → n < 10 ^ suc f → n < g → digits_onto (suc f) 10 false n acc ≡ dec_by g n ++ acc
+unfolding dec_by
+digits_by f zero n acc h l = absurd (not-suc-le-zero l)
+digits_by f (suc g) n acc h l = go f h (dec_lt n 10) (λ j q r. digits_by j g (n / 10) ((48 + n % 10) ∷ acc) q r)
+  where
+    go : (f : ℕ) → n < 10 ^ suc f → Dec (n < 10)
+        → ((j : ℕ) → n / 10 < 10 ^ suc j → n / 10 < g → digits_onto (suc j) 10 false (n / 10) ((48 + n % 10) ∷ acc) ≡ dec_by g (n / 10) ++ (48 + n % 10) ∷ acc)
+        → digits_onto (suc f) 10 false n acc ≡ dec_by (suc g) n ++ acc
+    go f h (yes small) ih =
+        let d : n / 10 ≡ 0 = omega arith in
+        let m : n % 10 ≡ n = omega arith in
+        simp (d, m, lt-ltb n 10 small)
+    go zero h (no large) ih = absurd (omega (arith, large))
+    go (suc f) h (no large) ih =
+        let ten : 10 ≤ n = omega (arith, large) in
+        let some : (n / 10 == 0) ≡ false = grind (arith, common_steps) in
+        let last : n % 10 < 10 = omega arith in
+        let upper : n / 10 < 10 ^ suc f = omega (arith, pow-suc 10 (suc f)) in
+        simp (some, le-ltb n 10 ten, lt-ltb (n % 10) 10 last, append_assoc) (ih f upper (omega arith))
+
+-- std's digits of a number of 64 bits
+pub decimal_is_dec : (n : ℕ) → n < 2 ^ 64 → decimal n ≡ dec n
+unfolding dec digits
+decimal_is_dec n h =
+    let wide : 20 ≤ 64 = omega arith in
+    let p : 10 ^ 20 ≤ 10 ^ 64 = pow-le-pow_right {n = 10} (omega arith) wide in
+    digits_by 63 (suc n) n [] (omega arith) (omega arith) ∙ append-nil (dec n)
+
+-- they are at most 20
+pub decimal_short : (n : ℕ) → n < 2 ^ 64 → length (decimal n) ≤ 20
+unfolding dec
+decimal_short n h = rw decimal_is_dec (short (suc n) 19 n (omega arith))
+
+-- n's digits and then an octet
+pub dec_before : (n b : ℕ) → dec n ++ (b ∷ []) ≡ dec_then n b
+unfolding dec_then
+dec_before n b = refl

@@ -7,6 +7,9 @@ use native.Mathlib.Numerals.{add-one}
 use native.Mathlib.Omega.{arith}
 use lib.ListN.{length, take, drop, set, length-append, length-drop, drop_of_length-le}
 use lib.Seq.{take_all, take_at, drop_at, paste-zero, drop-drop, take-length, set_split, length-take-le, append_snoc}
+use borrow.Rule.Slice.PartMut.{put_mid}
+use Rattle.std.proofs.lemmas.Slice.{put_mid-paste}
+use Rattle.std.proofs.lemmas.List.Edits.{paste_all}
 use Rattle.text.specs.Wrote.{Wrote, pasted}
 
 -- what stands before a text and the text itself
@@ -60,3 +63,13 @@ put_copy d at xs h =
     let ends : length (drop at d) ≤ length d - at = omega (arith, length-drop at d) in
     let over : drop (length d - at) (drop at d) ≡ [] = drop_of_length-le (drop at d) ends in
     rw (whole, over, take-length, append-nil, drop-drop, append_assoc)
+
+-- what a copy of xs into the part from at to e leaves
+pub put_part : (d ys : List ℕ) (at e : ℕ) (xs : List ℕ) → ys ≡ xs → e ≡ at + length xs → Wrote d at xs (put_mid at (e - at) d ys) e
+unfolding pasted
+put_part d ys at e xs same h =
+    record {
+      next = h;
+      text = put_mid-paste at (e - at) d ys xs (length xs) same (omega arith) refl ∙ paste_all d at xs (length xs) refl
+          ∙ sym (append_assoc (take at d) xs (drop (at + length xs) d));
+    }

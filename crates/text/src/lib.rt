@@ -1,19 +1,23 @@
 // Texts that are put into a lent buffer, and what the programs share: reading their input and writing their output.
 
+#![tactic(auto)]
+
 ghost use Rattle.std.specs.Prelude.{◌≡◌, ◌+◌, ◌*◌, ◌≤◌, ◌<◌, length};
-ghost use Rattle.io.specs.Counts.{IsPrefixLen};
+ghost use Rattle.text.specs.Counts.{IsPrefixLen};
 ghost use Rattle.text.specs.Text.{dec_then, row};
 ghost use Rattle.text.specs.Wrote.{Wrote};
 
-use libc::STDERR_FILENO;
+use itoa::Buffer;
+use std::io::{Read, Write};
 
 // Puts text into out from index at on, and answers the index after it.
 pub fn put(out: &mut [u8], at: usize, text: &[u8]) -> usize
     requires { at + length text.now ≤ length out.old }
     ensures { Wrote out.old at text.now out.new result }
 {
-    bytes::copy(text, &mut out[at..]);
-    at + text.len()
+    let next = at + text.len();
+    out[at..next].copy_from_slice(text);
+    next
 }
 
 // Puts n's decimal digits and the octet then.
@@ -22,9 +26,8 @@ pub fn put_number(out: &mut [u8], at: usize, n: u64, then: u8) -> usize
     ensures wrote { Wrote out.old at (dec_then n then) out.new result }
     ensures upper_bound { result ≤ at + 21 }
 {
-    let mut digits = [0u8; 20];
-    let k = io::decimal(n, &mut digits);
-    let next = put(out, at, &digits[..k]);
+    let mut digits = Buffer::new();
+    let next = put(out, at, digits.format(n).as_bytes());
     out[next] = then;
     next + 1
 }
@@ -52,32 +55,20 @@ pub struct Got {
     pub failed: bool,
 }
 
-// One read.
-fn read_some(from: i32, space: &mut [u8]) -> Got
-    ensures { (result.count ≤ length space.new) × (length space.new ≡ length space.old) }
-{
-    let got = libc::read(from, space);
-    Got {
-        count: io::count(got, space),
-        failed: got < 0,
-    }
-}
-
 // Reads until the space is full, the input ends or a read fails.
-pub fn read_all(from: i32, space: &mut [u8]) -> Got
+pub fn read_all<R: Read>(from: &mut R, space: &mut [u8]) -> Got
     ensures { IsPrefixLen result.count space.new }
 {
     let mut count: usize = 0;
     while count < space.len() {
-        let got = read_some(from, &mut space[count..]);
-        let more = got.count;
-        if more == 0 {
-            return Got {
+        match from.read(&mut space[count..]) {
+            Ok(0) => break,
+            Ok(more) => count += more,
+            Err(_) => return Got {
                 count,
-                failed: got.failed,
-            };
+                failed: true,
+            },
         }
-        count += more;
     }
     Got {
         count,
@@ -94,23 +85,18 @@ pub enum Outcome {
 }
 
 // Writes a whole text.
-pub fn write(to: i32, text: &[u8]) -> Outcome {
-    if io::write_all(to, text) {
-        Outcome::Written
-    } else {
-        Outcome::Unwritten
+pub fn write<W: Write>(to: &mut W, text: &[u8]) -> Outcome {
+    match to.write_all(text) {
+        Ok(()) => Outcome::Written,
+        Err(_) => Outcome::Unwritten,
     }
 }
 
 // Tells what went wrong on standard error, where the script that runs a program sees it.
-pub fn tell(outcome: Outcome) {
-    match outcome {
-        Outcome::Written => {}
-        Outcome::Unread => {
-            io::write_all(STDERR_FILENO, b"standard input cannot be read\n");
-        }
-        Outcome::Unwritten => {
-            io::write_all(STDERR_FILENO, b"standard output cannot be written\n");
-        }
-    }
+pub fn tell(rt: &impl Eprint, outcome: Outcome) {
+    let _ = match outcome {
+        Outcome::Written => Ok(()),
+        Outcome::Unread => rt.eprintln("standard input cannot be read"),
+        Outcome::Unwritten => rt.eprintln("standard output cannot be written"),
+    };
 }
