@@ -1,56 +1,44 @@
 // Lines of text, as `replay` reads and answers them: the parts of a line, which single spaces separate.
 
+#![tactic(auto)]
+
 pub mod numbers;
 pub mod octets;
 pub mod show;
 
 // The octet at an index; past the end a space.
 pub fn octet(line: &[u8], i: usize) -> u8 {
-    if i < line.len() {
-        return line[i];
-    }
-    b' '
+    line.get(i).copied().unwrap_or(b' ')
 }
 
 // How many parts there are.
 pub fn count(line: &[u8]) -> usize {
-    let mut n = 1;
-    let mut i = 0;
-    while i < line.len() {
-        if line[i] == b' ' {
-            n = std::num::wrapping_add_usize(n, 1);
-        }
-        i += 1;
-    }
-    n
+    let spaces = line.iter().filter(|c| **c == b' ').count();
+    spaces.wrapping_add(1)
 }
 
 // Where part k begins, counted from 0; the line's end if there is none.
 pub fn start(line: &[u8], k: usize) -> usize {
     let mut left = k;
-    let mut i = 0;
-    while i < line.len() {
+    for (i, c) in line.iter().enumerate() {
         if left == 0 {
             return i;
         }
-        if line[i] == b' ' {
+        if *c == b' ' {
             left -= 1;
         }
-        i += 1;
     }
-    i
+    line.len()
 }
 
 // Whether a text stands at an index, with a space or the line's end behind it.
 pub fn is_at(line: &[u8], from: usize, text: &[u8]) -> bool {
-    let mut i = 0;
-    while i < text.len() {
-        if octet(line, std::num::wrapping_add_usize(from, i)) != text[i] {
+    for (i, c) in text.iter().enumerate() {
+        if octet(line, from.wrapping_add(i)) != *c {
             return false;
         }
-        i += 1;
     }
-    octet(line, std::num::wrapping_add_usize(from, i)) == b' '
+    octet(line, from.wrapping_add(text.len())) == b' '
 }
 
 // Whether part k is a text.
@@ -60,38 +48,28 @@ pub fn says(line: &[u8], k: usize, text: &[u8]) -> bool {
 
 // Where the part that begins at an index ends.
 fn end(line: &[u8], from: usize) -> usize {
-    let mut i = from;
-    while i < line.len() {
+    for i in from..line.len() {
         if line[i] == b' ' {
             return i;
         }
-        i += 1;
     }
-    i
+    from.max(line.len())
 }
 
 // Part k itself.
 pub fn part(line: &[u8], k: usize) -> &[u8] {
     let from = start(line, k);
     let to = end(line, from);
-    if to < from {
-        return &line[0..0];
-    }
-    if line.len() < to {
-        return &line[0..0];
-    }
-    &line[from..to]
+    line.get(from..to).unwrap_or(&[])
 }
 
 // The first part from k on that is a text; how many parts there are if none is.
 pub fn find(line: &[u8], k: usize, text: &[u8]) -> usize {
     let all = count(line);
-    let mut i = k;
-    while i < all {
+    for i in k..all {
         if says(line, i, text) {
             return i;
         }
-        i += 1;
     }
     all
 }

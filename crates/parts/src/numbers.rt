@@ -3,6 +3,7 @@
 ghost use Rattle.std.specs.Prelude.{◌≡◌, length};
 
 use crate::{is_at, octet, says, start};
+use itoa::Buffer;
 
 // A mode that is absent, among the numbers. No field has this value.
 pub const ABSENT: u64 = 0x8000_0000_0000_0000;
@@ -16,17 +17,12 @@ pub fn wide(x: u8) -> u64
 // What the decimal digits from an index on write; digits beyond what fits are left.
 fn digits_at(line: &[u8], from: usize) -> u64 {
     let mut n: u64 = 0;
-    let mut i = from;
-    while i < line.len() {
-        let d = std::num::wrapping_sub_u8(line[i], 48);
-        if 9 < d {
-            return n;
-        }
-        if 0xff_ffff_ffff_ffff < n {
-            return n;
+    for c in line.iter().skip(from) {
+        let d = c.wrapping_sub(b'0');
+        if 9 < d || 0xff_ffff_ffff_ffff < n {
+            break;
         }
         n = n * 10 + wide(d);
-        i += 1;
     }
     n
 }
@@ -35,8 +31,8 @@ fn digits_at(line: &[u8], from: usize) -> u64 {
 pub fn read(line: &[u8], k: usize) -> u64 {
     let from = start(line, k);
     if octet(line, from) == b'-' {
-        let n = digits_at(line, std::num::wrapping_add_usize(from, 1));
-        return std::num::wrapping_sub_u64(0, n);
+        let n = digits_at(line, from.wrapping_add(1));
+        return n.wrapping_neg();
     }
     if says(line, k, b"absent") {
         return ABSENT;
@@ -46,9 +42,8 @@ pub fn read(line: &[u8], k: usize) -> u64 {
 
 // Whether a number's digits stand at an index.
 fn are_digits_at(line: &[u8], from: usize, n: u64) -> bool {
-    let mut text = [0u8; 20];
-    let k = io::decimal(n, &mut text);
-    is_at(line, from, &text[..k])
+    let mut digits = Buffer::new();
+    is_at(line, from, digits.format(n).as_bytes())
 }
 
 // Whether part k is a number as it would be told.
@@ -63,11 +58,7 @@ pub fn is_told(line: &[u8], k: usize, n: u64) -> bool {
     if octet(line, from) != b'-' {
         return false;
     }
-    are_digits_at(
-        line,
-        std::num::wrapping_add_usize(from, 1),
-        std::num::wrapping_sub_u64(0, n),
-    )
+    are_digits_at(line, from.wrapping_add(1), n.wrapping_neg())
 }
 
 // Whether part k is a number from 0 to the most that is taken.
@@ -81,7 +72,7 @@ pub fn is_up_to(line: &[u8], k: usize, most: u64) -> bool {
 
 // The number of part k + i, and cut to a type.
 pub fn at(line: &[u8], k: usize, i: usize) -> u64 {
-    read(line, std::num::wrapping_add_usize(k, i))
+    read(line, k.wrapping_add(i))
 }
 
 pub fn u8_at(line: &[u8], k: usize, i: usize) -> u8 {
@@ -112,31 +103,23 @@ fn to_i32(n: u64) -> i32 {
 pub fn of_i16(x: i16) -> u64 {
     let m = bits::magnitude(x);
     if x < 0 {
-        return std::num::wrapping_sub_u64(u64::MAX, m);
+        return u64::MAX.wrapping_sub(m);
     }
     m
 }
 
 // Whether a number is one of 32 bits.
 fn is_i32(n: u64) -> bool {
-    if n < 0x8000_0000 {
-        return true;
-    }
-    0xffff_ffff_8000_0000 <= n
+    n < 0x8000_0000 || 0xffff_ffff_8000_0000 <= n
 }
 
 // Whether the parts from `from` up to `to` are numbers of 32 bits.
 pub fn are_i32(line: &[u8], from: usize, to: usize) -> bool {
-    let mut k = from;
-    while k < to {
+    for k in from..to {
         let n = read(line, k);
-        if !is_i32(n) {
+        if !is_i32(n) || !is_told(line, k, n) {
             return false;
         }
-        if !is_told(line, k, n) {
-            return false;
-        }
-        k += 1;
     }
     true
 }
@@ -171,9 +154,5 @@ pub fn list_at(line: &[u8], from: usize) -> [i32; 16]
 
 // The number before index i, counted from 0; or 0 where there is none.
 pub fn before(numbers: &[u64], i: usize) -> u64 {
-    let k = std::num::wrapping_sub_usize(i, 1);
-    if k < numbers.len() {
-        return numbers[k];
-    }
-    0
+    numbers.get(i.wrapping_sub(1)).copied().unwrap_or(0)
 }

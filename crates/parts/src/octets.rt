@@ -2,19 +2,22 @@
 
 ghost use Rattle.std.specs.Prelude.{◌≡◌};
 
-// What the next octet of the line belongs to: a new part; the first or second digit of an octet; an octet of one digit; a text; a number of
-// times.
-const NEW: u8 = 0;
-
-const FIRST: u8 = 1;
-
-const SECOND: u8 = 2;
-
-const DIGIT: u8 = 3;
-
-const TEXT: u8 = 4;
-
-const TIMES: u8 = 5;
+// What the next octet of the line belongs to.
+#[derive(Clone, Copy)]
+enum Mode {
+    // A new part.
+    New,
+    // The first digit of an octet.
+    First,
+    // Its second digit.
+    Second,
+    // An octet of one digit.
+    Digit,
+    // A text.
+    Text,
+    // A number of times.
+    Times,
+}
 
 // The most times, and the most octets.
 const MOST: usize = 65664;
@@ -22,7 +25,7 @@ const MOST: usize = 65664;
 // What is gathered: how many octets, the last of them or its first digit, and whether the part has any. `bad` is what is not understood.
 #[derive(Clone, Copy)]
 struct Gathered {
-    mode: u8,
+    mode: Mode,
     last: u8,
     some: bool,
     times: usize,
@@ -32,7 +35,7 @@ struct Gathered {
 
 fn begin() -> Gathered {
     Gathered {
-        mode: NEW,
+        mode: Mode::New,
         last: 0,
         some: false,
         times: 0,
@@ -46,7 +49,7 @@ fn spoil(mut g: Gathered) -> Gathered {
     g
 }
 
-fn go_on(mut g: Gathered, mode: u8) -> Gathered {
+fn go_on(mut g: Gathered, mode: Mode) -> Gathered {
     g.mode = mode;
     g
 }
@@ -67,20 +70,20 @@ fn add(mut g: Gathered, x: u8, space: &mut [u8]) -> Gathered {
 // The first octet of a part says how it is written.
 fn start(g: Gathered, c: u8) -> Gathered {
     match c {
-        b'x' => go_on(g, FIRST),
-        b':' => go_on(g, DIGIT),
-        b'=' => go_on(g, TEXT),
+        b'x' => go_on(g, Mode::First),
+        b':' => go_on(g, Mode::Digit),
+        b'=' => go_on(g, Mode::Text),
         _ => spoil(g),
     }
 }
 
 // The value of a hexadecimal digit, or 16.
 fn nibble(c: u8) -> u8 {
-    let d = std::num::wrapping_sub_u8(c, 48);
+    let d = c.wrapping_sub(48);
     if d < 10 {
         return d;
     }
-    let e = std::num::wrapping_sub_u8(c, 97);
+    let e = c.wrapping_sub(97);
     if e < 6 {
         return e + 10;
     }
@@ -89,7 +92,7 @@ fn nibble(c: u8) -> u8 {
 
 fn take_times(g: Gathered) -> Gathered {
     if g.some {
-        return go_on(g, TIMES);
+        return go_on(g, Mode::Times);
     }
     spoil(g)
 }
@@ -103,7 +106,7 @@ fn take_first(mut g: Gathered, c: u8) -> Gathered {
         return spoil(g);
     }
     g.last = d;
-    go_on(g, SECOND)
+    go_on(g, Mode::Second)
 }
 
 fn take_second(g: Gathered, c: u8, space: &mut [u8]) -> Gathered {
@@ -111,7 +114,7 @@ fn take_second(g: Gathered, c: u8, space: &mut [u8]) -> Gathered {
     if 15 < d {
         return spoil(g);
     }
-    add(go_on(g, FIRST), (g.last % 16) * 16 + d, space)
+    add(go_on(g, Mode::First), (g.last % 16) * 16 + d, space)
 }
 
 fn take_digit(g: Gathered, c: u8, space: &mut [u8]) -> Gathered {
@@ -152,11 +155,11 @@ fn count_times(mut g: Gathered, c: u8) -> Gathered {
 fn take(g: Gathered, c: u8, space: &mut [u8]) -> Gathered {
     let mode = g.mode;
     match mode {
-        NEW => start(g, c),
-        FIRST => take_first(g, c),
-        SECOND => take_second(g, c, space),
-        DIGIT => take_digit(g, c, space),
-        TEXT => add(g, c, space),
+        Mode::New => start(g, c),
+        Mode::First => take_first(g, c),
+        Mode::Second => take_second(g, c, space),
+        Mode::Digit => take_digit(g, c, space),
+        Mode::Text => add(g, c, space),
         _ => count_times(g, c),
     }
 }
@@ -166,17 +169,15 @@ fn repeat(given: Gathered, space: &mut [u8]) -> Gathered {
     let x = given.last;
     let times = given.times;
     let mut g = given;
-    let mut i = 1;
-    while i < times {
+    for _ in 1..times {
         g = add(g, x, space);
-        i += 1;
     }
     g
 }
 
 // A part that is complete.
 fn renew(mut g: Gathered) -> Gathered {
-    g.mode = NEW;
+    g.mode = Mode::New;
     g.some = false;
     g.times = 0;
     g
@@ -196,9 +197,9 @@ fn end_times(g: Gathered, space: &mut [u8]) -> Gathered {
 fn end(g: Gathered, space: &mut [u8]) -> Gathered {
     let mode = g.mode;
     match mode {
-        NEW => spoil(g),
-        SECOND => spoil(g),
-        TIMES => renew(end_times(g, space)),
+        Mode::New => spoil(g),
+        Mode::Second => spoil(g),
+        Mode::Times => renew(end_times(g, space)),
         _ => renew(g),
     }
 }
@@ -212,10 +213,8 @@ fn step(g: Gathered, c: u8, space: &mut [u8]) -> Gathered {
 
 fn walk(line: &[u8], from: usize, space: &mut [u8]) -> Gathered {
     let mut g = begin();
-    let mut i = from;
-    while i < line.len() {
-        g = step(g, line[i], space);
-        i += 1;
+    for c in line.iter().skip(from) {
+        g = step(g, *c, space);
     }
     end(g, space)
 }

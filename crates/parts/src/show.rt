@@ -1,88 +1,78 @@
-// What is written, to standard output, piece by piece.
+// What is written of an answer, piece by piece.
 
 use crate::numbers;
-use libc::STDOUT_FILENO;
 use refusal::Refusal;
+use std::io;
+use std::io::Write;
 
-pub fn text(t: &[u8]) {
-    io::write_all(STDOUT_FILENO, t);
+pub fn text<W: Write>(out: &mut W, t: &[u8]) -> io::Result<()> {
+    out.write_all(t)
 }
 
 // A space and a number, which is below zero from 2^63 on.
-pub fn number(n: u64) {
+pub fn number<W: Write>(out: &mut W, n: u64) -> io::Result<()> {
     if n == numbers::ABSENT {
-        return text(b" absent");
+        return text(out, b" absent");
     }
     if n < numbers::ABSENT {
-        text(b" ");
-        return first_number(n);
+        text(out, b" ")?;
+        return first_number(out, n);
     }
-    text(b" -");
-    first_number(std::num::wrapping_sub_u64(0, n));
+    text(out, b" -")?;
+    first_number(out, n.wrapping_neg())
 }
 
 // A number with no space before it.
-pub fn first_number(n: u64) {
-    io::print_decimal(STDOUT_FILENO, n);
+pub fn first_number<W: Write>(out: &mut W, n: u64) -> io::Result<()> {
+    write!(out, "{n}")
 }
 
 // A refusal's number, place and bit, with no space before them.
-pub fn refusal(r: Refusal) {
-    first_number(r.number as u64);
-    number(r.place as u64);
-    number(r.bit as u64);
+pub fn refusal<W: Write>(out: &mut W, r: Refusal) -> io::Result<()> {
+    first_number(out, r.number as u64)?;
+    number(out, r.place as u64)?;
+    number(out, r.bit as u64)
 }
 
 // 64 bits in hexadecimal.
-pub fn bits(n: u64) {
-    io::print_hex(STDOUT_FILENO, n, 16);
+pub fn bits<W: Write>(out: &mut W, n: u64) -> io::Result<()> {
+    write!(out, "{n:016x}")
 }
 
 // Octets in hexadecimal, in so many digits each.
-fn list(s: &[u8], width: usize) {
-    let mut i = 0;
-    while i < s.len() {
-        io::print_hex(STDOUT_FILENO, numbers::wide(s[i]), width);
-        i += 1;
+fn list<W: Write>(out: &mut W, s: &[u8], width: usize) -> io::Result<()> {
+    for x in s {
+        write!(out, "{x:0width$x}")?;
     }
+    Ok(())
 }
 
 // A space, and octets behind an x.
-pub fn octets(s: &[u8]) {
-    text(b" x");
-    list(s, 2);
+pub fn octets<W: Write>(out: &mut W, s: &[u8]) -> io::Result<()> {
+    text(out, b" x")?;
+    list(out, s, 2)
 }
 
 // A space, and octets as one digit each behind a colon.
-pub fn levels(s: &[u8]) {
-    text(b" :");
-    list(s, 1);
+pub fn levels<W: Write>(out: &mut W, s: &[u8]) -> io::Result<()> {
+    text(out, b" :")?;
+    list(out, s, 1)
 }
 
 fn is_plain(s: &[u8]) -> bool {
-    let mut i = 0;
-    while i < s.len() {
-        if s[i] < 33 {
-            return false;
-        }
-        if 126 < s[i] {
-            return false;
-        }
-        i += 1;
-    }
-    i != 0
+    !s.is_empty() && s.iter().all(|c| 33 <= *c && *c <= 126)
 }
 
 // A space, and octets as a text behind an equals sign if they are one.
-pub fn plain(s: &[u8]) {
+pub fn plain<W: Write>(out: &mut W, s: &[u8]) -> io::Result<()> {
     if !is_plain(s) {
-        return octets(s);
+        return octets(out, s);
     }
-    text(b" =");
-    text(s);
+    text(out, b" =")?;
+    text(out, s)
 }
 
 // A line that is not understood.
-pub fn refuse() {
-    text(b"?");
+pub fn refuse<W: Write>(out: &mut W) -> io::Result<()> {
+    text(out, b"?")
 }
