@@ -1,8 +1,14 @@
 // Messages as a kind's word, and a word and a number for each field.
 
+#![tactic(auto)]
+
+ghost use Rattle.std.specs.Prelude.{◌≤◌};
+
 use kind::Kind;
 use message::{Amplifying, Corner, Iff, Message, Mode, Strobe, Track};
 use parts::{numbers, show};
+use std::io;
+use std::io::Write;
 use units::{AltSteps, LinkSteps};
 
 fn mode_at(line: &[u8], k: usize, i: usize) -> Mode {
@@ -96,6 +102,13 @@ fn read(line: &[u8], k: usize) -> Message {
 struct Fields {
     count: usize,
     numbers: [u64; 11],
+    ghost within: { count ≤ 11 },
+}
+
+impl Fields {
+    fn numbers(&self) -> &[u64] {
+        &self.numbers[..self.count]
+    }
 }
 
 fn none() -> Fields {
@@ -207,111 +220,77 @@ fn fields_of(m: Message) -> Fields {
     }
 }
 
-// A walk over a message's words and numbers. It tells them, or holds them against the parts of a line: what is understood is what would be
-// told.
+// The words of a kind: its own, and one for each field.
+fn words_of(kind: Kind) -> &'static [u8] {
+    match kind {
+        Kind::Blank => b"Blank",
+        Kind::S0 => b"S0",
+        Kind::S3 => b"S3 mode3a request emergency validation mode1 mode2",
+        Kind::S4 => b"S4 number quality x y",
+        Kind::S4Plus => b"S4+ number quality x y",
+        Kind::S5 =>
+            b"S5 altitude strength identification special23 simulated drop traffic vx allocation special39 vy",
+        Kind::S6 =>
+            b"S6 acquisition width strobe_type simulated azimuth site sensor number elevation age",
+        Kind::S8 => b"S8 number quality x y",
+        Kind::S8Plus => b"S8+ number quality x y",
+        Kind::S9 => b"S9 area site number drop x y",
+    }
+}
+
+// ---- a message's words and numbers, held against the parts of a line: what is understood is what would be told
+
+// The part that comes next, and whether all before it were the same.
 #[derive(Clone, Copy)]
 struct Walk {
-    telling: bool,
     part: usize,
     same: bool,
 }
 
-fn next(w: Walk, same: bool) -> Walk {
-    Walk {
-        telling: false,
-        part: std::num::wrapping_add_usize(w.part, 1),
-        same: w.same && same,
-    }
-}
-
-fn pass_word(w: Walk, line: &[u8], gap: &[u8], word: &[u8]) -> Walk {
-    if w.telling {
-        show::text(gap);
-        show::text(word);
-        return w;
-    }
-    next(w, parts::says(line, w.part, word))
-}
-
-fn pass_number(w: Walk, line: &[u8], n: u64) -> Walk {
-    if w.telling {
-        show::number(n);
-        return w;
-    }
-    next(w, numbers::is_told(line, w.part, n))
-}
-
-// Field i: its word is part i of the words, which begin with the kind's.
-fn pass_field(w: Walk, line: &[u8], words: &[u8], i: usize, numbers: &[u64]) -> Walk {
-    let named = pass_word(w, line, b" ", parts::part(words, i));
-    pass_number(named, line, numbers::before(numbers, i))
-}
-
-fn pass_fields(given: Walk, line: &[u8], words: &[u8], numbers: &[u64], count: usize) -> Walk {
-    let mut w = pass_word(given, line, b"", parts::part(words, 0));
-    let mut i = 0;
-    while i < count {
-        i += 1;
-        w = pass_field(w, line, words, i, numbers);
-    }
-    w
-}
-
-// The words of a kind: its own, and one for each field.
-fn pass_kind(w: Walk, line: &[u8], k: Kind, numbers: &[u64], count: usize) -> Walk {
-    match k {
-        Kind::Blank => pass_fields(w, line, b"Blank", numbers, count),
-        Kind::S0 => pass_fields(w, line, b"S0", numbers, count),
-        Kind::S3 => pass_fields(
-            w,
-            line,
-            b"S3 mode3a request emergency validation mode1 mode2",
-            numbers,
-            count,
-        ),
-        Kind::S4 => pass_fields(w, line, b"S4 number quality x y", numbers, count),
-        Kind::S4Plus => pass_fields(w, line, b"S4+ number quality x y", numbers, count),
-        Kind::S5 => pass_fields(
-            w,
-            line,
-            b"S5 altitude strength identification special23 simulated drop traffic vx allocation special39 vy",
-            numbers,
-            count,
-        ),
-        Kind::S6 => pass_fields(
-            w,
-            line,
-            b"S6 acquisition width strobe_type simulated azimuth site sensor number elevation age",
-            numbers,
-            count,
-        ),
-        Kind::S8 => pass_fields(w, line, b"S8 number quality x y", numbers, count),
-        Kind::S8Plus => pass_fields(w, line, b"S8+ number quality x y", numbers, count),
-        Kind::S9 => pass_fields(w, line, b"S9 area site number drop x y", numbers, count),
-    }
-}
-
-fn pass_message(w: Walk, line: &[u8], m: Message) -> Walk {
-    let f = fields_of(m);
-    let n = f.numbers;
-    pass_kind(w, line, message::kind_of(m), &n, f.count)
-}
-
-// A walk that holds a message against the parts from k on.
+// A walk from part k on.
 fn hold(k: usize) -> Walk {
     Walk {
-        telling: false,
         part: k,
         same: true,
     }
 }
 
-fn speak() -> Walk {
+fn next(w: Walk, same: bool) -> Walk {
     Walk {
-        telling: true,
-        part: 0,
-        same: true,
+        part: w.part.wrapping_add(1),
+        same: w.same && same,
     }
+}
+
+fn pass_word(w: Walk, line: &[u8], word: &[u8]) -> Walk {
+    next(w, parts::says(line, w.part, word))
+}
+
+fn pass_number(w: Walk, line: &[u8], n: u64) -> Walk {
+    next(w, numbers::is_told(line, w.part, n))
+}
+
+// Field i: its word is part i of the words, which begin with the kind's.
+fn pass_field(w: Walk, line: &[u8], words: &[u8], i: usize, numbers: &[u64]) -> Walk {
+    let named = pass_word(w, line, parts::part(words, i));
+    pass_number(named, line, numbers::before(numbers, i))
+}
+
+fn pass_fields(given: Walk, line: &[u8], words: &[u8], numbers: &[u64]) -> Walk {
+    let mut w = pass_word(given, line, parts::part(words, 0));
+    for i in 0..numbers.len() {
+        w = pass_field(w, line, words, i + 1, numbers);
+    }
+    w
+}
+
+fn pass_kind(w: Walk, line: &[u8], kind: Kind, numbers: &[u64]) -> Walk {
+    pass_fields(w, line, words_of(kind), numbers)
+}
+
+fn pass_message(w: Walk, line: &[u8], m: Message) -> Walk {
+    let fields = fields_of(m);
+    pass_kind(w, line, message::kind_of(m), fields.numbers())
 }
 
 // The part behind what was held; 0 where it was not the same.
@@ -348,14 +327,27 @@ pub fn take_kind(line: &[u8], k: usize) -> SaidKind {
     let kind = message::kind_of(read(line, k));
     SaidKind {
         kind,
-        next: behind(pass_kind(hold(k), line, kind, &[], 0)),
+        next: behind(pass_kind(hold(k), line, kind, &[])),
     }
 }
 
-pub fn tell(m: Message) {
-    pass_message(speak(), b"", m);
+// ---- the same, told
+
+fn tell_fields<W: Write>(out: &mut W, words: &[u8], numbers: &[u64]) -> io::Result<()> {
+    show::text(out, parts::part(words, 0))?;
+    for (i, n) in numbers.iter().enumerate() {
+        show::text(out, b" ")?;
+        show::text(out, parts::part(words, i + 1))?;
+        show::number(out, *n)?;
+    }
+    Ok(())
 }
 
-pub fn tell_kind(k: Kind) {
-    pass_kind(speak(), b"", k, &[], 0);
+pub fn tell<W: Write>(out: &mut W, m: Message) -> io::Result<()> {
+    let fields = fields_of(m);
+    tell_fields(out, words_of(message::kind_of(m)), fields.numbers())
+}
+
+pub fn tell_kind<W: Write>(out: &mut W, kind: Kind) -> io::Result<()> {
+    tell_fields(out, words_of(kind), &[])
 }
