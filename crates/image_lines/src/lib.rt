@@ -1,5 +1,7 @@
 // The lines of a listing, as text in a lent buffer (01, 'The listing program'): that of an image, and the last.
 
+#![tactic(auto)]
+
 ghost use Rattle.std.specs.Prelude.{◌≡◌, ◌+◌, ◌≤◌, ◌<◌, length};
 ghost use Rattle.kind.specs.Layouts.{label_of};
 ghost use Rattle.message.specs.Messages.{kind_of};

@@ -1,5 +1,5 @@
 -- The law of a count of octets at the start of a buffer. Assumes nothing.
-use Rattle.std.proofs.Common.{ℕ, ◌≡◌, ◌≤◌, List, length, take, sym}
+use Rattle.std.proofs.Common.{ℕ, ◌≤◌, List, length, sym}
 use Rattle.std.proofs.Math.Seq.{length-take-le}
 use Rattle.text.specs.Counts.{IsPrefixLen}
 
