@@ -1,3 +1,4 @@
 pub mod CountLaws
+pub mod ReadLaws
 pub mod WroteLaws
 pub mod TextLaws

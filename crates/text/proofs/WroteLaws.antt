@@ -73,3 +73,8 @@ put_part d ys at e xs same h =
       text = put_mid-paste at (e - at) d ys xs (length xs) same (omega arith) refl ∙ paste_all d at xs (length xs) refl
           ∙ sym (append_assoc (take at d) xs (drop (at + length xs) d));
     }
+
+-- what stands in front of the index after a text that is put at the start
+pub put_first : {d xs e : List ℕ} {r : ℕ} → Wrote d 0 xs e r → take r e ≡ xs
+unfolding pasted
+put_first {d} {xs} {e} {r} w = ap (take r) w.text ∙ take_at xs (drop (0 + length xs) d) r (omega (arith, w.next))

@@ -2,10 +2,12 @@
 
 #![tactic(auto)]
 
-ghost use Rattle.std.specs.Prelude.{◌≡◌, ◌+◌, ◌*◌, ◌≤◌, ◌<◌, length};
+ghost use Rattle.std.specs.Prelude.{◌≡◌, ◌+◌, ◌*◌, ◌≤◌, ◌<◌, false, length, take};
+ghost use Rattle.std.specs.Io.KnownBytes.{Appends, Consumes, IsAtEnd};
 ghost use Rattle.text.specs.Counts.{IsPrefixLen};
 ghost use Rattle.text.specs.Text.{dec_then, row};
 ghost use Rattle.text.specs.Wrote.{Wrote};
+ghost use Rattle.text.specs.declared.Outcome.TheVariants.{Written};
 
 use itoa::Buffer;
 use std::io::{Read, Write};
@@ -57,7 +59,9 @@ pub struct Got {
 
 // Reads until the space is full, the input ends or a read fails.
 pub fn read_all<R: Read>(from: &mut R, space: &mut [u8]) -> Got
-    ensures { IsPrefixLen result.count space.new }
+    ensures prefix_len { IsPrefixLen result.count space.new }
+    ensures read { Consumes (R.remaining from.old) (R.remaining from.new) (take result.count space.new) }
+    ensures whole { result.failed ≡ false → result.count < length space.new → IsAtEnd (R.remaining from.new) }
 {
     let mut count: usize = 0;
     while count < space.len() {
@@ -85,7 +89,9 @@ pub enum Outcome {
 }
 
 // Writes a whole text.
-pub fn write<W: Write>(to: &mut W, text: &[u8]) -> Outcome {
+pub fn write<W: Write>(to: &mut W, text: &[u8]) -> Outcome
+    ensures { result ≡ Written → Appends (W.contents to.old) (W.contents to.new) text.now }
+{
     match to.write_all(text) {
         Ok(()) => Outcome::Written,
         Err(_) => Outcome::Unwritten,
