@@ -1,59 +1,67 @@
 // Lists each log of data/, and tells the frames of each capture there, under its name, as the two programs do for standard input.
 
-// Prints a file's name and opens it: the descriptor, or a negative number if it cannot be read.
-fn begin(name: &[u8]) -> i32 {
-    io::write_all(1, b"== ");
-    io::write_all(1, name);
-    io::write_all(1, b"\n");
-    let fd = os::open_read(name);
-    if fd < 0 {
-        os::fail(name);
-    }
-    fd
+#![tactic(auto)]
+
+use std::fs::Files;
+use std::{fs, io};
+
+const LOGS: [&str; 12] = [
+    "logs/none",
+    "logs/short",
+    "logs/left",
+    "logs/mixed",
+    "logs/corners",
+    "logs/modes",
+    "logs/pairs",
+    "logs/refusals",
+    "logs/damaged",
+    "logs/fields",
+    "logs/full",
+    "logs/over",
+];
+
+const CAPTURES: [&str; 15] = [
+    "captures/none",
+    "captures/short",
+    "captures/one",
+    "captures/two",
+    "captures/eight",
+    "captures/back_to_back",
+    "captures/false_lock",
+    "captures/damaged",
+    "captures/noise",
+    "captures/traffic",
+    "captures/idle",
+    "captures/zeros",
+    "captures/full",
+    "captures/full_shifted",
+    "captures/over",
+];
+
+// Prints a file's name and opens it.
+fn begin<R: Files + Print>(rt: &R, name: &str) -> io::Result<R::File> {
+    println!(rt; "== {name}")?;
+    fs::open(rt, name)
 }
 
-fn list(name: &[u8]) {
-    let fd = begin(name);
-    if fd >= 0 {
-        listing::run(fd, 1);
-        libc::close(fd);
-    }
+fn list(rt: &HostRuntime, name: &str) -> io::Result<()> {
+    let mut log = begin(rt, name)?;
+    text::tell(rt, listing::run(&mut log, &mut rt.stdout()));
+    Ok(())
 }
 
-fn hear(name: &[u8]) {
-    let fd = begin(name);
-    if fd >= 0 {
-        hearing::run(fd, 1);
-        libc::close(fd);
-    }
+fn hear(rt: &HostRuntime, name: &str) -> io::Result<()> {
+    let mut capture = begin(rt, name)?;
+    text::tell(rt, hearing::run(&mut capture, &mut rt.stdout()));
+    Ok(())
 }
 
-fn main() {
-    list(b"logs/none");
-    list(b"logs/short");
-    list(b"logs/left");
-    list(b"logs/mixed");
-    list(b"logs/corners");
-    list(b"logs/modes");
-    list(b"logs/pairs");
-    list(b"logs/refusals");
-    list(b"logs/damaged");
-    list(b"logs/fields");
-    list(b"logs/full");
-    list(b"logs/over");
-    hear(b"captures/none");
-    hear(b"captures/short");
-    hear(b"captures/one");
-    hear(b"captures/two");
-    hear(b"captures/eight");
-    hear(b"captures/back_to_back");
-    hear(b"captures/false_lock");
-    hear(b"captures/damaged");
-    hear(b"captures/noise");
-    hear(b"captures/traffic");
-    hear(b"captures/idle");
-    hear(b"captures/zeros");
-    hear(b"captures/full");
-    hear(b"captures/full_shifted");
-    hear(b"captures/over");
+fn main(rt: HostRuntime) -> io::Result<()> {
+    for name in LOGS {
+        list(&rt, name)?;
+    }
+    for name in CAPTURES {
+        hear(&rt, name)?;
+    }
+    Ok(())
 }

@@ -1,21 +1,21 @@
 // Opens an image, and prints both labels or why it was refused.
 
-use link1::{Message, Opened};
+#![tactic(auto)]
 
-fn print_label(m: Message) {
-    io::print_decimal(1, link1::label(link1::kind_of(m)) as u64);
-    io::write_all(1, b"\n");
+use link1::{Message, Opened};
+use std::io;
+
+fn print_label(rt: &impl Print, m: Message) -> io::Result<()> {
+    println!(rt; "{}", link1::label(link1::kind_of(m)))
 }
 
-fn main() {
+fn main(rt: HostRuntime) -> io::Result<()> {
     let image = *b"\x00\xc4\x80\x80\x80\x80\x80\x80\x80\x80\x80\x80\x80\x80\x80\xbb";
     match link1::open(&image) {
         Opened::Pair(first, second) => {
-            print_label(first);
-            print_label(second);
+            print_label(&rt, first)?;
+            print_label(&rt, second)
         }
-        Opened::Refused(r) => {
-            io::print_decimal(1, r.number as u64);
-        }
+        Opened::Refused(r) => print!(rt; "{}", r.number),
     }
 }

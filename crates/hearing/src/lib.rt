@@ -1,12 +1,15 @@
 // The frames heard in a capture, as text in a lent buffer (02, item 5).
 
+#![tactic(auto)]
+
 ghost use Rattle.std.specs.Prelude.{◌+◌, ◌≤◌, ◌<◌, length};
-ghost use Rattle.io.specs.Counts.{IsPrefixLen};
+ghost use Rattle.text.specs.Counts.{IsPrefixLen};
 ghost use Rattle.text.specs.Wrote.{Wrote};
 ghost use Rattle.hearing.specs.Ends.{end_in};
 ghost use Rattle.hearing.specs.Hearing.{lines_of, hearing_of};
 
 use octets::{HeardOctet, OctetReceiver};
+use std::io::{Read, Write};
 use text::Outcome;
 
 // The longest capture that is heard, in octets.
@@ -41,8 +44,7 @@ fn fill(capture: &[u8], out: &mut [u8]) -> usize
     while k < capture.len() {
         let heard = receiver.step(capture[k]);
         at = put_end(out, at, k, heard);
-        let next = heard.receiver;
-        receiver = next;
+        receiver = heard.receiver;
         k += 1;
     }
     at
@@ -56,16 +58,15 @@ pub fn hear_capture(capture: &[u8], out: &mut [u8; ROOM]) -> usize
     fill(capture, out)
 }
 
-// Tells on one descriptor the frames of the capture that is read from another. One octet more than a capture may have is read, to
-// tell that it has more.
-pub fn run(from: i32, to: i32) -> Outcome {
+// Tells to a writer the frames of the capture that is read from a reader. One octet more than a capture may have is read, to tell that it
+// has more.
+pub fn run<R: Read, W: Write>(from: &mut R, to: &mut W) -> Outcome {
     let mut space = [0u8; MOST + 1];
     let got = text::read_all(from, &mut space);
-    let n = got.count;
     if got.failed {
         return Outcome::Unread;
     }
     let mut out = [0u8; ROOM];
-    let k = hear_capture(&space[..n], &mut out);
+    let k = hear_capture(&space[..got.count], &mut out);
     text::write(to, &out[..k])
 }

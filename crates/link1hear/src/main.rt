@@ -1,5 +1,8 @@
 // Tells the frames that are heard in the capture on standard input.
 
-fn main() {
-    text::tell(hearing::run(0, 1));
+#![tactic(auto)]
+
+fn main(rt: HostRuntime) {
+    let outcome = hearing::run(&mut rt.stdin(), &mut rt.stdout());
+    text::tell(&rt, outcome);
 }

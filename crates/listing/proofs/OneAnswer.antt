@@ -3,7 +3,7 @@
 use mathlib.Core.Path.{sym, ◌∙◌}
 use Prim.Native.Nat.{ℕ}
 use contract.Lifetimes.{Lfts}
-use Rattle.io.specs.Counts.{IsPrefixLen}
+use Rattle.text.specs.Counts.{IsPrefixLen}
 use Rattle.refusal.proofs.One.{OneLeaving}
 use Rattle.listing.proofs.list_log.Reads as list-log
 

@@ -1,10 +1,13 @@
 // The listing of a log, as text in a lent buffer (01, 'The listing program').
 
+#![tactic(auto)]
+
 ghost use Rattle.std.specs.Prelude.{◌≤◌, length};
-ghost use Rattle.io.specs.Counts.{IsPrefixLen};
+ghost use Rattle.text.specs.Counts.{IsPrefixLen};
 ghost use Rattle.text.specs.Wrote.{Wrote};
 ghost use Rattle.listing.specs.Listing.{listing_of};
 
+use std::io::{Read, Write};
 use text::Outcome;
 
 // The longest log that is listed, in octets: 4,096 images.
@@ -42,15 +45,14 @@ pub fn list_log(log: &[u8], out: &mut [u8; ROOM]) -> usize
     fill(log, out)
 }
 
-// Lists on one descriptor the log that is read from another. One octet more than a log may have is read, to tell that it has more.
-pub fn run(from: i32, to: i32) -> Outcome {
+// Lists to a writer the log that is read from a reader. One octet more than a log may have is read, to tell that it has more.
+pub fn run<R: Read, W: Write>(from: &mut R, to: &mut W) -> Outcome {
     let mut space = [0u8; MOST + 1];
     let got = text::read_all(from, &mut space);
-    let n = got.count;
     if got.failed {
         return Outcome::Unread;
     }
     let mut out = [0u8; ROOM];
-    let k = list_log(&space[..n], &mut out);
+    let k = list_log(&space[..got.count], &mut out);
     text::write(to, &out[..k])
 }

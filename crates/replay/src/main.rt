@@ -1,9 +1,12 @@
 // Replays a file of calls from standard input: line n of the output answers line n of the input. docs/CASES.md says how a line is written.
 
+#![tactic(auto)]
+
 mod calls;
 
-use libc::{STDERR_FILENO, STDIN_FILENO};
 use parts::show;
+use std::io;
+use std::io::{Read, Write};
 
 // How much of a line has come, and whether it is longer than is taken.
 #[derive(Clone, Copy)]
@@ -20,31 +23,25 @@ fn begin() -> Line {
 }
 
 // An empty line and a note are answered by themselves.
-fn answer_whole(line: &[u8], space: &mut [u8]) {
-    if line.len() == 0 {
-        return;
+fn answer_whole<W: Write>(out: &mut W, line: &[u8], space: &mut [u8]) -> io::Result<()> {
+    match line.first() {
+        None => Ok(()),
+        Some(b'#') => show::text(out, line),
+        Some(_) => calls::call(out, line, space),
     }
-    if line[0] == b'#' {
-        return show::text(line);
-    }
-    calls::call(line, space);
 }
 
-fn answer(l: Line, line: &[u8], space: &mut [u8]) {
-    let k = l.length;
-    if l.long {
-        return show::refuse();
+fn answer<W: Write>(out: &mut W, l: Line, line: &[u8], space: &mut [u8]) -> io::Result<()> {
+    if l.long || line.len() < l.length {
+        return show::refuse(out);
     }
-    if line.len() < k {
-        return show::refuse();
-    }
-    answer_whole(&line[0..k], space);
+    answer_whole(out, &line[..l.length], space)
 }
 
-fn finish(l: Line, line: &[u8], space: &mut [u8]) -> Line {
-    answer(l, line, space);
-    show::text(b"\n");
-    begin()
+fn finish<W: Write>(out: &mut W, l: Line, line: &[u8], space: &mut [u8]) -> io::Result<Line> {
+    answer(out, l, line, space)?;
+    show::text(out, b"\n")?;
+    Ok(begin())
 }
 
 fn take(mut l: Line, c: u8, line: &mut [u8]) -> Line {
@@ -52,27 +49,37 @@ fn take(mut l: Line, c: u8, line: &mut [u8]) -> Line {
     if k < line.len() {
         line[k] = c;
         l.length = k + 1;
-        return l;
+    } else {
+        l.long = true;
     }
-    l.long = true;
     l
 }
 
-fn step(l: Line, c: u8, line: &mut [u8], space: &mut [u8]) -> Line {
+fn step<W: Write>(
+    out: &mut W,
+    l: Line,
+    c: u8,
+    line: &mut [u8],
+    space: &mut [u8],
+) -> io::Result<Line> {
     if c == b'\n' {
-        return finish(l, line, space);
+        return finish(out, l, line, space);
     }
-    take(l, c, line)
+    Ok(take(l, c, line))
 }
 
-fn feed(given: Line, chunk: &[u8], line: &mut [u8], space: &mut [u8]) -> Line {
+fn feed<W: Write>(
+    out: &mut W,
+    given: Line,
+    chunk: &[u8],
+    line: &mut [u8],
+    space: &mut [u8],
+) -> io::Result<Line> {
     let mut l = given;
-    let mut i = 0;
-    while i < chunk.len() {
-        l = step(l, chunk[i], line, space);
-        i += 1;
+    for c in chunk {
+        l = step(out, l, *c, line, space)?;
     }
-    l
+    Ok(l)
 }
 
 // The line so far, and whether the input goes on.
@@ -82,50 +89,65 @@ struct Taken {
     line: Line,
 }
 
-fn take_some(l: Line, line: &mut [u8], space: &mut [u8]) -> Taken {
-    let mut chunk = io::buffer();
-    let got = libc::read(STDIN_FILENO, &mut chunk);
-    if got < 0 {
-        io::write_all(
-            STDERR_FILENO,
-            b"replay: the calls on standard input cannot be read\n",
-        );
-        return Taken {
-            more: false,
-            line: l,
-        };
-    }
-    let n = io::count(got, &chunk);
-    let after = feed(l, &chunk[..n], line, space);
-    Taken {
-        more: n != 0,
-        line: after,
-    }
-}
-
-// A last line that no line feed ends is answered too.
-fn close(l: Line, line: &[u8], space: &mut [u8]) {
-    if l.length != 0 {
-        finish(l, line, space);
-    }
-}
-
-// Reads until the input ends. That the loop ends for any input is shown by counting the reads, more than a file of calls can need.
-fn run(line: &mut [u8], space: &mut [u8]) {
-    let mut l = begin();
-    let mut turns: u64 = 0x1_0000_0000;
-    while 0 < turns {
-        let taken = take_some(l, line, space);
-        l = taken.line;
-        turns -= 1;
-        if !taken.more {
-            return close(l, line, space);
+fn take_some<R: Read, W: Write>(
+    rt: &impl Eprint,
+    from: &mut R,
+    out: &mut W,
+    l: Line,
+    line: &mut [u8],
+    space: &mut [u8],
+) -> io::Result<Taken> {
+    let mut chunk = [0u8; 4096];
+    match from.read(&mut chunk) {
+        Ok(n) => Ok(Taken {
+            more: n != 0,
+            line: feed(out, l, &chunk[..n], line, space)?,
+        }),
+        Err(_) => {
+            let _ = rt.eprintln("replay: the calls on standard input cannot be read");
+            Ok(Taken {
+                more: false,
+                line: l,
+            })
         }
     }
 }
 
-fn main() {
+// A last line that no line feed ends is answered too.
+fn close<W: Write>(out: &mut W, l: Line, line: &[u8], space: &mut [u8]) -> io::Result<()> {
+    if l.length != 0 {
+        finish(out, l, line, space)?;
+    }
+    Ok(())
+}
+
+// Reads until the input ends. That the loop ends for any input is shown by counting the reads, more than a file of calls can need.
+fn run<R: Read, W: Write>(
+    rt: &impl Eprint,
+    from: &mut R,
+    out: &mut W,
+    line: &mut [u8],
+    space: &mut [u8],
+) -> io::Result<()> {
+    let mut l = begin();
+    for _ in 0..u64::MAX {
+        let taken = take_some(rt, from, out, l, line, space)?;
+        l = taken.line;
+        if !taken.more {
+            return close(out, l, line, space);
+        }
+    }
+    Ok(())
+}
+
+fn main(rt: HostRuntime) -> io::Result<()> {
     let mut line = [0u8; 8192];
     let mut space = [0u8; 65664];
-    run(&mut line, &mut space);
+    run(
+        &rt,
+        &mut rt.stdin(),
+        &mut rt.stdout(),
+        &mut line,
+        &mut space,
+    )
 }

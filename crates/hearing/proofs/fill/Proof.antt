@@ -5,7 +5,7 @@ use mathlib.Core.Path.{◌≡◌, refl, ap, ◌∙◌}
 use native.Mathlib.Omega.{arith}
 use lib.ListN.{length, get_or}
 use Prim.Native.Nat.{ℕ, ◌-◌, ◌*◌, ◌≤◌}
-use Rattle.io.proofs.Counting.{prefix_len_of_le}
+use Rattle.text.proofs.CountLaws.{prefix_len_of_le}
 use Rattle.text.specs.Wrote.{Wrote}
 use Rattle.text.proofs.WroteLaws.{put_as}
 use Rattle.octets.specs.Feeding.{heard_octet, fed_to, heard_at}

@@ -4,7 +4,7 @@ use mathlib.Core.Path.{◌≡◌, refl, ap, ◌∙◌}
 use native.Mathlib.Omega.{arith}
 use lib.ListN.{length}
 use Prim.Native.Nat.{◌+◌, ◌-◌, ◌*◌, ◌/◌, ◌≤◌}
-use Rattle.io.proofs.Counting.{prefix_len_of_le}
+use Rattle.text.proofs.CountLaws.{prefix_len_of_le}
 use Rattle.text.specs.Wrote.{Wrote}
 use Rattle.listing.specs.Listing.{image_lines}
 use Rattle.text.proofs.WroteLaws.{put_none, put_as, put_put}
