@@ -1,5 +1,7 @@
 // Closing a pair: the two messages as words, and their image.
 
+#![tactic(auto)]
+
 ghost use Rattle.pair.specs.Closing.{Closed};
 
 use message::{Encoded, Message};

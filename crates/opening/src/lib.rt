@@ -1,5 +1,7 @@
 // Opening an image: a good frame, the labels of its two words, the pair, and what each word holds.
 
+#![tactic(auto)]
+
 ghost use Rattle.std.specs.Prelude.{◌≡◌};
 ghost use Rattle.pair.specs.Opening.{open_contents, open_words, open_of};
 
