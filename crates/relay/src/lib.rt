@@ -1,6 +1,8 @@
 // One relay step: an image is opened, each message that has a position is shifted to another site's origin, and the pair is closed into a
 // buffer.
 
+#![tactic(auto)]
+
 ghost use Rattle.relay.specs.Relay.{Relayed};
 
 use pair::Opened;
