@@ -16,7 +16,7 @@ import sys
 # Names that have a name of the library in them; constructors of link1's questions that would have a definition's name;
 # and lemmas that an earlier step gave the name that a definition is to have.
 OTHERWISE = {"getD-tab": "get_or-tab"}
-QUESTIONS = {"verdict-of": "asked_verdict", "altitude-of": "asked_altitude"}
+QUESTIONS = {"heard-at": "heard_in", "verdict-of": "asked_verdict", "altitude-of": "asked_altitude"}
 LEMMAS = {"crates/shift/proofs/PlaceLaws.antt": "in_field", "crates/octets/proofs/Equality.antt": "answer_at"}
 EDGE = r"\s(){}\[\],.;«»`|*\"“”"
 DECLARED = re.compile(

@@ -101,7 +101,7 @@ pub data Value : Type 0 where
   pair : Message → Message → Value
   buffer : List ℕ → Value
   heard : Bool → List ℕ → Value
-  heard_at : Bool → ℕ → List ℕ → Value
+  heard_in : Bool → ℕ → List ℕ → Value
   value : ℕ → Value
 
 -- 01's number and place, 02's bit, and the value
@@ -153,7 +153,7 @@ abbrev tell_heard : Heard → Came
 tell_heard h = tell h.refusal (heard h.frame h.image)
 
 abbrev value_octet : HeardOctet → Value
-value_octet h = heard_at h.frame h.bit h.image
+value_octet h = heard_in h.frame h.bit h.image
 
 unfoldable pub answer : Asked → Came
 answer (asked_verdict image) = tell (verdict_of image) nothing

@@ -8,6 +8,7 @@ use Prim.Native.Nat.{ℕ}
 use lib.IntN.{ℤ}
 use contract.Lifetimes.{Lfts}
 use denote.Ref.{Bor}
+use denote.MutBor.{MutBor}
 use Rattle.refusal.specs.declared.Refusal.{Refusal}
 use Rattle.frame.specs.Frame.{verdict_of}
 use Rattle.line.specs.Machine.{heard_of}
@@ -43,9 +44,12 @@ use Rattle.opening.proofs.open.Reads as open-call
 use Rattle.closing.proofs.close.Reads as close
 use Rattle.relay.proofs.relay.Reads as relay
 
--- a reference to a value
+-- a reference to a value, and one that lends it to be changed
 abbrev lent : {X : Type 0} → X → Bor X
 lent x = record { ref_ptr = (0, 0); now = x }
+
+abbrev lent_out : {X : Type 0} → X → MutBor X
+lent_out x = record { ghost_name = 0; ref_ptr = (0, 0); now = x }
 
 -- ---- `verdict`: an image, and the refusal
 
@@ -78,7 +82,7 @@ pub closed : {first second : Message} {buffer after : List ℕ} {r : Refusal} �
 closed (closes κs a r e p) = p
 
 pub closes_any : (κs : Lfts 1) (first second : Message) (buffer : List ℕ) → Closes first second buffer (close_refusal first second buffer) (close_image first second buffer)
-closes_any κs first second buffer = closes κs (first, (second, (lent buffer, tt))) (close_refusal first second buffer) (first, (second, (lent (close_image first second buffer), tt))) (refl, refl)
+closes_any κs first second buffer = closes κs (first, (second, (lent_out buffer, tt))) (close_refusal first second buffer) (first, (second, (lent_out (close_image first second buffer), tt))) (refl, refl)
 
 -- ---- `relay`: an image, the offsets on X and on Y and a buffer, the refusal and the buffer afterwards
 
@@ -91,8 +95,8 @@ relayed (relays κs a r e p) = p
 
 pub relays_any : (κs : Lfts 4) (image : List ℕ) (xs ys : List ℤ) (buffer : List ℕ) → Relays image xs ys buffer (relay_refusal image xs ys buffer) (relay_image image xs ys buffer)
 relays_any κs image xs ys buffer =
-    relays κs (lent image, (lent xs, (lent ys, (lent buffer, tt)))) (relay_refusal image xs ys buffer)
-    (lent image, (lent xs, (lent ys, (lent (relay_image image xs ys buffer), tt)))) (refl, refl)
+    relays κs (lent image, (lent xs, (lent ys, (lent_out buffer, tt)))) (relay_refusal image xs ys buffer)
+    (lent image, (lent xs, (lent ys, (lent_out (relay_image image xs ys buffer), tt)))) (refl, refl)
 
 -- ---- `Receiver::step`: a receiver and a level, and the answer; `OctetReceiver::step`: a receiver and an octet
 
@@ -124,7 +128,7 @@ sent (sends κs a r e p) = p
 
 pub sends_any : (κs : Lfts 2) (image : List ℕ) (previous : ℕ) (buffer : List ℕ) → Sends image previous buffer (send_refusal image previous buffer) (send_levels image previous buffer)
 sends_any κs image previous buffer =
-    sends κs (lent image, (previous, (lent buffer, tt))) (send_refusal image previous buffer) (lent image, (previous, (lent (send_levels image previous buffer), tt))) (refl, refl)
+    sends κs (lent image, (previous, (lent_out buffer, tt))) (send_refusal image previous buffer) (lent image, (previous, (lent_out (send_levels image previous buffer), tt))) (refl, refl)
 
 -- ---- `search`: a capture and a start, and the position or the refusal
 
@@ -169,7 +173,7 @@ pub spelled : {number : ℕ} {buffer after : List ℕ} {r : Refusal} → Spells 
 spelled (spells κs a r e p) = p
 
 pub spells_any : (κs : Lfts 1) (number : ℕ) (buffer : List ℕ) → Spells number buffer (text_refusal number buffer) (text_after number buffer)
-spells_any κs number buffer = spells κs (number, (lent buffer, tt)) (text_refusal number buffer) (number, (lent (text_after number buffer), tt)) (refl, refl)
+spells_any κs number buffer = spells κs (number, (lent_out buffer, tt)) (text_refusal number buffer) (number, (lent_out (text_after number buffer), tt)) (refl, refl)
 
 pub data Numbers : List ℕ → Tracked → Type 0 where
   numbers : (κs : Lfts 1) (a : _) (r : Tracked) (e : _) → track-number.Post κs a r e → Numbers a.0.now r

@@ -20,7 +20,7 @@ use Rattle.message.specs.declared.Message.TheVariants as m
 use Rattle.pair.specs.Pairs.{pair_of}
 use Rattle.pair.specs.Opening.{open_refusal, open_of}
 use Rattle.link1.proofs.Asking.{Asked, asked_verdict, open_image, send_after, hear_after, hear_octets, search_from}
-use Rattle.link1.proofs.Asking.{nothing, pair, buffer, heard, heard_at, value, told, answer, Row, ◌⇒◌, answers, expected, track, at, digits, sixteen}
+use Rattle.link1.proofs.Asking.{nothing, pair, buffer, heard, heard_in, value, told, answer, Row, ◌⇒◌, answers, expected, track, at, digits, sixteen}
 use Rattle.frame.proofs.Images.{image_t, image_p}
 use Rattle.link1.proofs.FactValues.{image, label, fives, no_octets, levels_t0, levels_t1, shifted_t}
 
@@ -129,11 +129,11 @@ refusals_are = refl
 -- the first octet never count
 abbrev pub feeding : List Row
 feeding =
-    (hear_octets image_t ⇒ told 0 0 (heard_at true 8 image_t))
-    ∷ (hear_octets shifted_t ⇒ told 0 0 (heard_at true 3 image_t))
-    ∷ (hear_octets (image_t ++ 0xff ∷ []) ⇒ told 0 0 (heard_at false 0 no_octets))
-    ∷ (hear_octets (take 15 image_t ++ 0xfe ∷ []) ⇒ told 0 0 (heard_at false 0 no_octets))
-    ∷ (hear_octets (drop 1 image_t) ⇒ told 0 0 (heard_at false 0 no_octets))
+    (hear_octets image_t ⇒ told 0 0 (heard_in true 8 image_t))
+    ∷ (hear_octets shifted_t ⇒ told 0 0 (heard_in true 3 image_t))
+    ∷ (hear_octets (image_t ++ 0xff ∷ []) ⇒ told 0 0 (heard_in false 0 no_octets))
+    ∷ (hear_octets (take 15 image_t ++ 0xfe ∷ []) ⇒ told 0 0 (heard_in false 0 no_octets))
+    ∷ (hear_octets (drop 1 image_t) ⇒ told 0 0 (heard_in false 0 no_octets))
     ∷ []
 
 pub feeding_hold : answers feeding ≡ expected feeding

@@ -1,5 +1,7 @@
 // Link 1: the public list. Each public call and type, from the crate that has it.
 
+#![tactic(auto)]
+
 // The numbers a caller may get back; 8 and 11 are no longer given.
 pub use refusal::{
     BAD_CHECK, BAD_LENGTH, BAD_LEVEL, BAD_MARK, BAD_PAIR, BAD_PATTERN, BAD_START, NO_FRAME,
