@@ -102,7 +102,8 @@ module _ (f : ℤ) (n : AltSteps) (e : height_of f ≡ H.At n) where
   unfolding height_of height_refusal
   answered_at =
       let q = answer_is H.Refused (H.At (record { 0 = altitude_of f })) (height_refusal f) (H.At n) (λ r z. zero_one (cc)) e in
-      (leb-true _ _ (success_passed (height_checks f) refl q.0).0, cc)
+      let low = leb-true _ _ (success_passed (height_checks f) refl q.0).0 in
+      (omega arith, cc)
 
   pub height_range : (1 ≤ n.0) × (n.0 ≤ 511)
   unfolding altitude_of near_alt
