@@ -11,13 +11,13 @@ use Rattle.kind.specs.declared.Named.TheVariants as N
 use Rattle.kind.proofs.kind_named.Goals as goal
 
 -- the answer by what the label names
-by-label : (n : ℕ) {l : Labelled} → kind_from all_kinds n ≡ l
+by_label : (n : ℕ) {l : Labelled} → kind_from all_kinds n ≡ l
     → answered N.Refused (first_refusal (check (is_known l) unknown_label ∷ [])) (N.Kind (kind_named l)) ≡ named_of n
 unfolding named_of name_refusal
-by-label n e = sym (ap (λ (l : Labelled). answered N.Refused (first_refusal (check (is_known l) unknown_label ∷ [])) (N.Kind (kind_named l))) e)
+by_label n e = sym (ap (λ (l : Labelled). answered N.Refused (first_refusal (check (is_known l) unknown_label ∷ [])) (N.Kind (kind_named l))) e)
 
 pub returns-in-Known : goal.returns-in-Known
-returns-in-Known c = by-label _ (sym c.find_label.ensures ∙ c.in-Known.is)
+returns-in-Known c = by_label _ (sym c.find_label.ensures ∙ c.in-Known.is)
 
 pub returns-in-Unknown : goal.returns-in-Unknown
-returns-in-Unknown c = ap N.Refused c.of.ensures ∙ by-label _ (sym c.find_label.ensures ∙ c.in-Unknown.is)
+returns-in-Unknown c = ap N.Refused c.of.ensures ∙ by_label _ (sym c.find_label.ensures ∙ c.in-Unknown.is)

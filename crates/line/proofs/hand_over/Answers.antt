@@ -24,9 +24,9 @@ abbrev good : Refusal → Bool
 good r = eqb r.number success
 
 -- a frame is held where the verdict on the window's image is success
-holds-is : (w : Window) (image : List ℕ) (t : Bool) → image ≡ window_image w → eqb (verdict_of image).number success ≡ t → holds_frame w ≡ t
+holds_is : (w : Window) (image : List ℕ) (t : Bool) → image ≡ window_image w → eqb (verdict_of image).number success ≡ t → holds_frame w ≡ t
 unfolding holds_frame
-holds-is w image t e v =
+holds_is w image t e v =
     sym (verdict_good (bit_at (window_image w))) ∙ ap good (sym (verdict_image (window_image w) refl))
     ∙ ap (λ (l : List ℕ). good (verdict_of l)) (sym e) ∙ v
 
@@ -46,29 +46,29 @@ nine w fits e =
         omega arith
 
 -- a window that begins otherwise holds none
-not-begun : (w : Window) → w.older < 2 ^ 64 → (w.older / 2 ^ 55 ≡ 1 → ⊥) → holds_frame w ≡ false
+not_begun : (w : Window) → w.older < 2 ^ 64 → (w.older / 2 ^ 55 ≡ 1 → ⊥) → holds_frame w ≡ false
 unfolding holds_frame
-not-begun w fits h = never_true _ (λ e. h (nine w fits e))
+not_begun w fits h = never_true _ (λ e. h (nine w fits e))
 
 none_is : (w : Window) → holds_frame w ≡ false → nothing_handed ≡ handed_of w
 none_is w e = rw e
 
-handed-is : (w : Window) (image : List ℕ) → holds_frame w ≡ true → image ≡ window_image w
+handed_is : (w : Window) (image : List ℕ) → holds_frame w ≡ true → image ≡ window_image w
     → ◌≡◌ {A = Handed} (record { frame = true; image = image }) (handed_of w)
-handed-is w image e f = rw (e, f)
+handed_is w image e f = rw (e, f)
 
 pub returns-then-window-ne1 : goal.returns-then-window-ne1
-returns-then-window-ne1 c = c.hold_back.ensures ∙ none_is _ (not-begun _ (search rules) c.if-window-ne1.true)
+returns-then-window-ne1 c = c.hold_back.ensures ∙ none_is _ (not_begun _ (search rules) c.if-window-ne1.true)
 
 pub returns-then-verdict-eq-SUCCESS : goal.returns-then-verdict-eq-SUCCESS
 returns-then-verdict-eq-SUCCESS c =
     let v = c.verdict in
     let i = c.image-image in
-    handed-is _ _ (holds-is _ i.result true i.ensures (eq-eqb _ _ (sym (ap (λ (r : Refusal). r.number) v.ensures) ∙ c.if-verdict-eq-SUCCESS.true))) i.ensures
+    handed_is _ _ (holds_is _ i.result true i.ensures (eq-eqb _ _ (sym (ap (λ (r : Refusal). r.number) v.ensures) ∙ c.if-verdict-eq-SUCCESS.true))) i.ensures
 
 pub returns : goal.returns
 returns c =
     let v = c.verdict in
     let i = c.image-image in
     c.hold_back-2.ensures
-    ∙ none_is _ (holds-is _ i.result false i.ensures (ne_eqb _ _ (λ e. c.if-verdict-eq-SUCCESS.false (ap (λ (r : Refusal). r.number) v.ensures ∙ e))))
+    ∙ none_is _ (holds_is _ i.result false i.ensures (ne_eqb _ _ (λ e. c.if-verdict-eq-SUCCESS.false (ap (λ (r : Refusal). r.number) v.ensures ∙ e))))

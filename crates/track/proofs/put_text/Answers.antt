@@ -11,8 +11,8 @@ use Rattle.track.proofs.put_text.Goals as goal
 abbrev four : List ℕ → ℕ → ℕ → ℕ → ℕ → List ℕ
 four l a b c d = set (set (set (set l 0 a) 1 b) 2 c) 3 d
 
-four-length : (l : List ℕ) (a b c d : ℕ) → length (four l a b c d) ≡ length l
-four-length l a b c d =
+four_length : (l : List ℕ) (a b c d : ℕ) → length (four l a b c d) ≡ length l
+four_length l a b c d =
     length-set (set (set (set l 0 a) 1 b) 2 c) 3 d ∙ length-set (set (set l 0 a) 1 b) 2 c ∙ length-set (set l 0 a) 1 b ∙ length-set l 0 a
 
 fifth : (l : List ℕ) (a b c d e : ℕ) → length l ≡ 5 → set (four l a b c d) 4 e ≡ a ∷ b ∷ c ∷ d ∷ e ∷ []
@@ -27,7 +27,7 @@ bounds-text-4 c =
     let b = c.letter-2.result in
     let d = c.digit.result in
     let e = c.digit-2.result in
-    let room : 4 < length (four text a b d e) = omega (arith, four-length text a b d e, begin.requires) in
+    let room : 4 < length (four text a b d e) = omega (arith, four_length text a b d e, begin.requires) in
     room
 
 pub returns : goal.returns

@@ -14,21 +14,21 @@ use Rattle.units.proofs.move_step.Goals as goal
 use Rattle.units.proofs.move_step.Goals.{After-struct_told-2-1, After-round-n}
 
 -- every position, every number of feet, and the exact sum of the two fit in 64 bits, with room for the rounding
-steps-fit : (o : ℤ) → SFits w16 o → SFits w64 o
-steps-fit o h = sfits w64 o (omega (arith, mag_parts o h.sfits))
+steps_fit : (o : ℤ) → SFits w16 o → SFits w64 o
+steps_fit o h = sfits w64 o (omega (arith, mag_parts o h.sfits))
 
-times-fit : (o : ℤ) → SFits w16 o → SFits w64 (pos 750 *ℤ o)
-times-fit o h = sfits w64 (pos 750 *ℤ o) (omega (arith, mul_parts 750 o, mag_parts o h.sfits))
+times_fit : (o : ℤ) → SFits w16 o → SFits w64 (pos 750 *ℤ o)
+times_fit o h = sfits w64 (pos 750 *ℤ o) (omega (arith, mul_parts 750 o, mag_parts o h.sfits))
 
-feet-fit : (b : ℤ) → SFits w32 b → SFits w64 b
-feet-fit b k = sfits w64 b (omega (arith, mag_parts b k.sfits))
+feet_fit : (b : ℤ) → SFits w32 b → SFits w64 b
+feet_fit b k = sfits w64 b (omega (arith, mag_parts b k.sfits))
 
 module _ (o b : ℤ) (h : SFits w16 o) (k : SFits w32 b) where
-  exact-small : mag (pos 750 *ℤ o +ℤ b) < 2 ^ 40
-  exact-small = parts_mag (pos 750 *ℤ o +ℤ b) (omega (arith, add_le (pos 750 *ℤ o) b, mul_parts 750 o, mag_parts o h.sfits, mag_parts b k.sfits))
+  exact_small : mag (pos 750 *ℤ o +ℤ b) < 2 ^ 40
+  exact_small = parts_mag (pos 750 *ℤ o +ℤ b) (omega (arith, add_le (pos 750 *ℤ o) b, mul_parts 750 o, mag_parts o h.sfits, mag_parts b k.sfits))
 
-  exact-fits : SFits w64 (pos 750 *ℤ o +ℤ b)
-  exact-fits = sfits w64 (pos 750 *ℤ o +ℤ b) (omega (arith, mag_parts (pos 750 *ℤ o +ℤ b) exact-small))
+  exact_fits : SFits w64 (pos 750 *ℤ o +ℤ b)
+  exact_fits = sfits w64 (pos 750 *ℤ o +ℤ b) (omega (arith, mag_parts (pos 750 *ℤ o +ℤ b) exact_small))
 
 -- the two numbers that were handed in
 old : (c : After-struct_told-2-1) → SFits w16 c.args.old.0
@@ -40,47 +40,47 @@ feet c = record { sfits = c.struct_told-2-1.given.0.1 }
 pub overflow_cast-steps : goal.overflow_cast-steps
 overflow_cast-steps c =
     let o : SFits w16 c.args.old.0 = record { sfits = c.struct_told-1.given.0.1 } in
-    simp to_z-of_z (steps-fit _ o)
+    simp to_z-of_z (steps_fit _ o)
 
 pub overflow_cast-feet : goal.overflow_cast-feet
 overflow_cast-feet c =
     let b = feet c in
-    simp to_z-of_z (feet-fit _ b)
+    simp to_z-of_z (feet_fit _ b)
 
 pub overflow_mul-exact : goal.overflow_mul-exact
 overflow_mul-exact c =
     let o = old c in
-    let p = steps-fit _ o in
-    simp to_z-of_z (times-fit _ o)
+    let p = steps_fit _ o in
+    simp to_z-of_z (times_fit _ o)
 
 pub overflow_add-exact : goal.overflow_add-exact
 overflow_add-exact c =
     let o = old c in
-    let p = steps-fit _ o in
-    let q = times-fit _ o in
+    let p = steps_fit _ o in
+    let q = times_fit _ o in
     let b = feet c in
-    let d = feet-fit _ b in
-    simp to_z-of_z (exact-fits _ _ o b)
+    let d = feet_fit _ b in
+    simp to_z-of_z (exact_fits _ _ o b)
 
 pub round-n-requires : goal.round-n-requires
 round-n-requires c =
     let o = old c in
-    let p = steps-fit _ o in
-    let q = times-fit _ o in
+    let p = steps_fit _ o in
+    let q = times_fit _ o in
     let b = feet c in
-    let d = feet-fit _ b in
-    let e = exact-fits _ _ o b in
-    simp to_z-of_z (exact-small _ _ o b)
+    let d = feet_fit _ b in
+    let e = exact_fits _ _ o b in
+    simp to_z-of_z (exact_small _ _ o b)
 
 -- what `round` gave is the nearest step, and fits
 near_is : (c : After-round-n) → c.round-n.result ≡ nearest_to c.args.old.0 c.args.by.0
 near_is c =
     let o = old c.before in
-    let p = steps-fit _ o in
-    let q = times-fit _ o in
+    let p = steps_fit _ o in
+    let q = times_fit _ o in
     let b = feet c.before in
-    let d = feet-fit _ b in
-    let e = exact-fits _ _ o b in
+    let d = feet_fit _ b in
+    let e = exact_fits _ _ o b in
     simp to_z-of_z at c.round-n.ensures
 
 ok : (c : After-round-n) → SFits w64 c.round-n.result

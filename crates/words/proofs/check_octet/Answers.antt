@@ -17,8 +17,8 @@ use Rattle.frame.proofs.FrameLaws.{column_ones, frame_0}
 use Rattle.words.proofs.check_octet.Invariants.{check_at}
 use Rattle.words.proofs.check_octet.Goals as goal
 
-check-lt : (s : List ℕ) (i : ℕ) → check_at s i < 2
-check-lt s i = mod-lt _ (lit< tt)
+check_lt : (s : List ℕ) (i : ℕ) → check_at s i < 2
+check_lt s i = mod-lt _ (lit< tt)
 
 -- the mark, six bits and the final one
 framed : (x : ℕ) → x < 64 → bit_or 129 ((x * 2 ^ 1) % 2 ^ 8) ≡ 129 + x * 2
@@ -38,7 +38,7 @@ loop-i-preserved c =
     let s = c.args.image.now in
     let i = c.loop-i.i in (
       search rules,
-      num_turn (check_at s) 8 i _ _ (search rules) (check-lt s) c.loop-i.invariant.1
+      num_turn (check_at s) 8 i _ _ (search rules) (check_lt s) c.loop-i.invariant.1
           (ap (λ (n : ℕ). (ones n + 1) % 2) c.column.ensures ∙ ap (λ (n : ℕ). (n + 1) % 2) (column_ones s 0 (6 - i) ∙ ap (λ (b : ℕ → ℕ). column_of b (6 - i)) (frame_0 s))),
     )
 
@@ -47,4 +47,4 @@ returns c =
     let s = c.args.image.now in
     let e : c.loop-i.i ≡ 6 = omega arith in
     ap (λ (n : ℕ). bit_or 129 ((n * 2 ^ 1) % 2 ^ 8)) (c.loop-i.invariant.1 ∙ ap (num_of (check_at s)) e)
-    ∙ framed (num_of (check_at s) 6) (num_lt (check_at s) 6 (λ k _. check-lt s k))
+    ∙ framed (num_of (check_at s) 6) (num_lt (check_at s) 6 (λ k _. check_lt s k))

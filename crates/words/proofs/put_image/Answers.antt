@@ -9,11 +9,11 @@ use Rattle.words.proofs.PackingLaws.{stored, image_stored}
 use Rattle.words.proofs.put_image.Goals as goal
 
 -- sixteen octets have octet 15, also after a store
-last-there : (s : List ℕ) (i x : ℕ) → length s ≡ 16 → 15 < length (set s i x)
-last-there s i x e = omega (arith, length-set s i x, e)
+last_there : (s : List ℕ) (i x : ℕ) → length s ≡ 16 → 15 < length (set s i x)
+last_there s i x e = omega (arith, length-set s i x, e)
 
 pub bounds-image-15-2 : goal.bounds-image-15-2
-bounds-image-15-2 c = let d = c.put_message-2 in last-there d.new.image _ _ d.ensures.1
+bounds-image-15-2 c = let d = c.put_message-2 in last_there d.new.image _ _ d.ensures.1
 
 pub shape_of-image : goal.shape_of-image
 shape_of-image c =

@@ -18,11 +18,11 @@ use Rattle.writing.proofs.pack.Goals as goal
 use Rattle.writing.proofs.pack.Goals.{After-layout-table}
 
 -- the fields packed above the label are the whole layout joined
-with-label : (m : Message)
+with_label : (m : Message)
     → packed_if (misfit 6 (layout_of (kind_of m)) (parts_of m)) (join 6 (layout_of (kind_of m)) (parts_of m) + label_of (kind_of m))
     ≡ packed_if (message_trouble m) (message_word m)
 unfolding message_trouble message_word
-with-label m =
+with_label m =
     let k = kind_of m in
     let e : join 6 (layout_of k) (parts_of m) + label_of k ≡ join 0 (whole_of k) (tt, parts_of m) = omega arith in
     ap (packed_if (misfit 6 (layout_of k) (parts_of m))) e
@@ -63,4 +63,4 @@ returns c =
     let k = kind_of m in
     c.pack.ensures
     ∙ rw (w.wide8.ensures, b.label.ensures, l.kind_of-k.ensures, widths_are l.layout-table.result k (table_is (goal.at.returns c).After-layout-table), rules_are l.layout-table.result k (table_is (goal.at.returns c).After-layout-table), values_are l.layout-table.result k (table_is (goal.at.returns c).After-layout-table) (parts_of m) _ v.values-numbers.ensures)
-    (packed_layout (label_of k) 6 (layout_of k) (parts_of m) (sound k) ∙ with-label m)
+    (packed_layout (label_of k) 6 (layout_of k) (parts_of m) (sound k) ∙ with_label m)

@@ -13,8 +13,8 @@ longer : (s : Receiver) (l : ℕ) (w : Window) → s.started ≡ true → w ≡ 
     → ◌≡◌ {A = Receiver} (record { started = true; last = l; window = w }) (accepted s l)
 longer s l w h e = rw (h, e)
 
-as-accepted : (s : Receiver) (l : ℕ) → s.started ≡ false → ◌≡◌ {A = Receiver} (record { started = true; last = l; window = s.window }) (accepted s l)
-as-accepted s l h = rw h
+as_accepted : (s : Receiver) (l : ℕ) → s.started ≡ false → ◌≡◌ {A = Receiver} (record { started = true; last = l; window = s.window }) (accepted s l)
+as_accepted s l h = rw h
 
 pub push-longer-requires : goal.push-longer-requires
 push-longer-requires c = let a = c.args in rw c.change.ensures (differ_le a.self.last a.level)
@@ -23,4 +23,4 @@ pub returns-then-self : goal.returns-then-self
 returns-then-self c = longer _ _ _ c.if-self.true (c.push-longer.ensures ∙ ap (pushed _) c.change.ensures)
 
 pub returns : goal.returns
-returns c = as-accepted _ _ c.if-self.false
+returns c = as_accepted _ _ c.if-self.false
