@@ -1,11 +1,11 @@
 -- Laws of the lines of a listing. Assumes nothing.
 use mathlib.Core.Path.{◌≡◌, sym, ap, ◌∙◌}
-use mathlib.Core.List.{List, ◌++◌}
+use mathlib.Core.List.{List, [], ◌++◌}
 use Prim.Native.Nat.{ℕ, ◌+◌, ◌*◌, ◌/◌, ◌%◌, ◌≤◌, ◌<◌}
 use native.Mathlib.Numerals.{add-one}
 use native.Mathlib.Omega.{arith}
 use borrow.Author.Tests.{lt-ltb, le-ltb}
-use lib.ListN.{length, take, drop}
+use lib.ListN.{length, take, drop, length-append}
 use Rattle.pair.specs.Opening.{open_of}
 use Rattle.pair.specs.declared.Opened.{Opened}
 use Rattle.text.specs.Text.{too_long}
@@ -13,6 +13,11 @@ use Rattle.text.specs.Wrote.{Wrote}
 use Rattle.image_lines.specs.ImageLines.{image_line, last_line}
 use Rattle.listing.specs.Listing.{header, image_lines, image_at, listing_of}
 use Rattle.text.proofs.WroteLaws.{put_put, put_as}
+
+-- no line
+pub lines_none : (log : List ℕ) {d e : List ℕ} {at r : ℕ} → Wrote d at [] e r → Wrote d at (image_lines log 0) e r
+unfolding image_lines
+lines_none log w = w
 
 -- one line more. m is 16, as the code computes it
 pub lines_more : (log : List ℕ) (n : ℕ) {m : ℕ} {o : Opened} → m ≡ 16 → o ≡ open_of (take m (drop (n * 16) log))
@@ -37,3 +42,10 @@ listed log d {e} {f} {g} {q} {r} {t} few room short w v u =
 pub listed_long : (log d : List ℕ) {e : List ℕ} {r : ℕ} → 65536 < length log → Wrote d 0 too_long e r → Wrote d 0 (listing_of log) e r
 unfolding listing_of
 listed_long log d many w = put_as (simp (lt-ltb 65536 (length log) many)) w
+
+-- of a log that is too long no more counts
+pub longer_listed : (log more : List ℕ) → 65536 < length log → listing_of (log ++ more) ≡ listing_of log
+unfolding listing_of
+longer_listed log more many =
+    let still : 65536 < length (log ++ more) = omega (arith, length-append log more) in
+    rw (lt-ltb 65536 (length log) many, lt-ltb 65536 (length (log ++ more)) still)

@@ -1,6 +1,6 @@
 -- Laws of reads into a buffer, one behind the other. Assumes nothing.
-use Rattle.std.proofs.Common.{ℕ, ◌+◌, ◌-◌, ◌≡◌, ◌≤◌, List, [], ◌++◌, length, take, refl, sym, ap, ◌∙◌, append_assoc, arith, None, Some, IfSome, ◌<◌, append-nil}
-use Rattle.std.specs.Io.KnownBytes.{Consumes, Keeps, IsAtEnd}
+use Rattle.std.proofs.Common.{subst, ℕ, ◌+◌, ◌-◌, ◌≡◌, ◌≤◌, List, [], ◌++◌, length, take, refl, sym, ap, ◌∙◌, append_assoc, arith, None, Some, IfSome, ◌<◌, append-nil}
+use Rattle.std.specs.Io.KnownBytes.{Appends, Consumes, Keeps, IsAtEnd}
 use Rattle.std.specs.declared.option.Option.{Option}
 use Rattle.std.proofs.Math.Seq.{length-take-le, take-append-add}
 use Rattle.std.proofs.lemmas.List.{take-append-le}
@@ -50,3 +50,10 @@ read_enough f (Some all) (Some ys) space n inside read whole more = go (dec_lt n
     go (no full) =
         let e : n ≡ length space = omega (arith, full) in
         sym (ap f read ∙ more (take n space) ys (length-take-le n space inside ∙ e))
+
+-- so where that is written, it is what the function says of all
+pub written_enough : (f : List ℕ → List ℕ) (known to new : Option (List ℕ)) (got text : List ℕ)
+    → IfSome known (λ (all : List ℕ). f got ≡ f all) → text ≡ f got → Appends to new text
+    → IfSome known (λ (all : List ℕ). Appends to new (f all))
+written_enough f None to new got text same is put = tt
+written_enough f (Some all) to new got text same is put = subst (Appends to new) (is ∙ same) put
