@@ -100,3 +100,10 @@ module _ (capture d : List ℕ) where
   pub heard_long : {e : List ℕ} {r : ℕ} → 65536 < length capture → Wrote d 0 too_long e r → Wrote d 0 (hearing_of capture) e r
   unfolding hearing_of
   heard_long many w = put_as (simp (lt-ltb 65536 (length capture) many)) w
+
+-- of a capture that is too long no more counts
+pub longer_heard : (capture more : List ℕ) → 65536 < length capture → hearing_of (capture ++ more) ≡ hearing_of capture
+unfolding hearing_of
+longer_heard capture more many =
+    let still : 65536 < length (capture ++ more) = omega (arith, length-append capture more) in
+    rw (lt-ltb 65536 (length capture) many, lt-ltb 65536 (length (capture ++ more)) still)
