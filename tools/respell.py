@@ -14,9 +14,10 @@ import re
 import sys
 
 # Names that have a name of the library in them; constructors of link1's questions that would have a definition's name;
-# and lemmas that an earlier step gave the name that a definition is to have.
+# one that stands apart from its definition; and lemmas to which the kit's script gave the name of a definition.
 OTHERWISE = {"getD-tab": "get_or-tab"}
 QUESTIONS = {"heard-at": "heard_in", "verdict-of": "asked_verdict", "altitude-of": "asked_altitude"}
+KEPT = {"kind-named"}
 LEMMAS = {"crates/shift/proofs/PlaceLaws.antt": "in_field", "crates/octets/proofs/Equality.antt": "answer_at"}
 EDGE = r"\s(){}\[\],.;«»`|*\"“”"
 DECLARED = re.compile(
@@ -62,7 +63,7 @@ def main():
     for n in new:
         if "-" in n and new[n] in camel:
             twin = [m for m in new if "-" not in m and new[m] == new[n]]
-            if any(n in words[p] and (set(twin) | {new[n]}) & words[p] for p in code if not p.startswith("crates/link1/")):
+            if n not in KEPT | set(QUESTIONS) and any(n in words[p] and (set(twin) | {new[n]}) & words[p] for p in code):
                 new[n] += "_lem"
     for path in code:
         if not path.endswith(".antt") or os.path.basename(path) == "Proof.antt":
