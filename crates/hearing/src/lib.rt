@@ -3,10 +3,10 @@
 #![tactic(auto)]
 
 ghost use Rattle.std.specs.Prelude.{◌+◌, ◌≤◌, ◌<◌, ◌≡◌, length, IfSome};
-ghost use Rattle.std.specs.Io.KnownBytes.{Appends};
+ghost use Rattle.std.specs.Io.KnownBytes.{Appends, Keeps};
 ghost use Rattle.text.specs.Counts.{IsPrefixLen};
 ghost use Rattle.text.specs.Wrote.{Wrote};
-ghost use Rattle.text.specs.declared.Outcome.TheVariants.{Written};
+ghost use Rattle.text.specs.declared.Outcome.TheVariants.{Written, Unread};
 ghost use Rattle.hearing.specs.Ends.{end_in};
 ghost use Rattle.hearing.specs.Hearing.{lines_of, hearing_of};
 
@@ -63,8 +63,9 @@ pub fn hear_capture(capture: &[u8], out: &mut [u8; ROOM]) -> usize
 // Tells to a writer the frames of the capture that is read from a reader. One octet more than a capture may have is read, to tell that it
 // has more.
 pub fn run<R: Read, W: Write>(from: &mut R, to: &mut W) -> Outcome
-    ensures { result ≡ Written → IfSome (R.remaining from.old)
+    ensures whole { result ≡ Written → IfSome (R.remaining from.old)
         (λ capture. Appends (W.contents to.old) (W.contents to.new) (hearing_of capture)) }
+    ensures kept { result ≡ Unread → Keeps (W.contents to.old) (W.contents to.new) }
 {
     let mut space = [0u8; MOST + 1];
     let got = text::read_all(from, &mut space);

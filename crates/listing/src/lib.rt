@@ -3,10 +3,10 @@
 #![tactic(auto)]
 
 ghost use Rattle.std.specs.Prelude.{◌≡◌, ◌≤◌, length, IfSome};
-ghost use Rattle.std.specs.Io.KnownBytes.{Appends};
+ghost use Rattle.std.specs.Io.KnownBytes.{Appends, Keeps};
 ghost use Rattle.text.specs.Counts.{IsPrefixLen};
 ghost use Rattle.text.specs.Wrote.{Wrote};
-ghost use Rattle.text.specs.declared.Outcome.TheVariants.{Written};
+ghost use Rattle.text.specs.declared.Outcome.TheVariants.{Written, Unread};
 ghost use Rattle.listing.specs.Listing.{listing_of};
 
 use std::io::{Read, Write};
@@ -49,8 +49,9 @@ pub fn list_log(log: &[u8], out: &mut [u8; ROOM]) -> usize
 
 // Lists to a writer the log that is read from a reader. One octet more than a log may have is read, to tell that it has more.
 pub fn run<R: Read, W: Write>(from: &mut R, to: &mut W) -> Outcome
-    ensures { result ≡ Written → IfSome (R.remaining from.old)
+    ensures whole { result ≡ Written → IfSome (R.remaining from.old)
         (λ log. Appends (W.contents to.old) (W.contents to.new) (listing_of log)) }
+    ensures kept { result ≡ Unread → Keeps (W.contents to.old) (W.contents to.new) }
 {
     let mut space = [0u8; MOST + 1];
     let got = text::read_all(from, &mut space);

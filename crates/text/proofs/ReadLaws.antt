@@ -1,16 +1,11 @@
 -- Laws of reads into a buffer, one behind the other. Assumes nothing.
-use Rattle.std.proofs.Common.{subst, ℕ, ◌+◌, ◌-◌, ◌≡◌, ◌≤◌, List, [], ◌++◌, length, take, refl, sym, ap, ◌∙◌, append_assoc, arith, None, Some, IfSome, ◌<◌, append-nil}
-use Rattle.std.specs.Io.KnownBytes.{Appends, Consumes, Keeps, IsAtEnd}
+use Rattle.std.proofs.Common.{subst, ℕ, ◌+◌, ◌-◌, ◌≡◌, ◌≤◌, List, ◌++◌, length, take, sym, ap, ◌∙◌, append_assoc, arith, None, Some, IfSome, ◌<◌, append-nil}
+use Rattle.std.specs.Io.KnownBytes.{Appends, Consumes, IsAtEnd}
 use Rattle.std.specs.declared.option.Option.{Option}
 use Rattle.std.proofs.Math.Seq.{length-take-le, take-append-add}
 use Rattle.std.proofs.lemmas.List.{take-append-le}
 use native.Mathlib.Decide.{dec_lt}
 use borrow.Rule.Slice.PartMut.{put_mid, post_of}
-
--- nothing is read
-pub read_none : (known : Option (List ℕ)) → Consumes known known []
-read_none None = tt
-read_none (Some xs) = refl
 
 -- more is read
 pub read_more : (a b c : Option (List ℕ)) (xs ys : List ℕ) → Consumes a b xs → Consumes b c ys → Consumes a c (xs ++ ys)
@@ -18,13 +13,6 @@ read_more None b c xs ys p q = tt
 read_more (Some ws) None c xs ys p q = absurd p
 read_more (Some ws) (Some bs) None xs ys p q = absurd q
 read_more (Some ws) (Some bs) (Some cs) xs ys p q = p ∙ ap (λ (l : List ℕ). xs ++ l) q ∙ sym (append_assoc xs ys cs)
-
--- a read fails
-pub read_kept : (a b c : Option (List ℕ)) (xs : List ℕ) → Consumes a b xs → Keeps b c → Consumes a c xs
-read_kept None b c xs p q = tt
-read_kept (Some ws) None c xs p q = absurd p
-read_kept (Some ws) (Some bs) None xs p q = absurd q
-read_kept (Some ws) (Some bs) (Some cs) xs p q = p ∙ ap (λ (l : List ℕ). xs ++ l) (sym q)
 
 -- what stands at the start of a buffer when n octets are read behind its first k
 pub take_read : (k n : ℕ) (xs ys : List ℕ) → k ≤ length xs → n ≤ length ys

@@ -2,12 +2,12 @@
 
 #![tactic(auto)]
 
-ghost use Rattle.std.specs.Prelude.{◌≡◌, ◌+◌, ◌*◌, ◌≤◌, ◌<◌, false, length, take};
+ghost use Rattle.std.specs.Prelude.{◌≡◌, ◌≢◌, ◌+◌, ◌*◌, ◌≤◌, ◌<◌, false, length, take};
 ghost use Rattle.std.specs.Io.KnownBytes.{Appends, Consumes, IsAtEnd};
 ghost use Rattle.text.specs.Counts.{IsPrefixLen};
 ghost use Rattle.text.specs.Text.{dec_then, row};
 ghost use Rattle.text.specs.Wrote.{Wrote};
-ghost use Rattle.text.specs.declared.Outcome.TheVariants.{Written};
+ghost use Rattle.text.specs.declared.Outcome.TheVariants.{Written, Unread};
 
 use itoa::Buffer;
 use std::io::{Read, Write};
@@ -90,7 +90,8 @@ pub enum Outcome {
 
 // Writes a whole text.
 pub fn write<W: Write>(to: &mut W, text: &[u8]) -> Outcome
-    ensures { result ≡ Written → Appends (W.contents to.old) (W.contents to.new) text.now }
+    ensures whole { result ≡ Written → Appends (W.contents to.old) (W.contents to.new) text.now }
+    ensures not_read { result ≢ Unread }
 {
     match to.write_all(text) {
         Ok(()) => Outcome::Written,

@@ -5,8 +5,8 @@ use Rattle.hearing.specs.Hearing.{hearing_of}
 use Rattle.hearing.proofs.HearingLaws.{longer_heard}
 use Rattle.hearing.proofs.run.Goals as goal
 
-pub returns : goal.returns
-returns g c written =
+pub returns-clause-whole : goal.returns-clause-whole
+returns-clause-whole g c written =
     let got = c.read_all-got in
     let space = got.new.space in
     let n = got.result.count in
@@ -14,4 +14,7 @@ returns g c written =
     let most : length space ≡ 65537 = omega arith in
     let longer = λ (xs ys : List ℕ) (e : length xs ≡ length space). longer_heard xs ys (omega (arith, e, most)) in
     let enough = read_enough hearing_of known _ space n got.ensures.prefix_len.0 got.ensures.read (got.ensures.whole c.if-got.false) longer in
-    written_enough hearing_of known _ _ (take n space) _ enough (put_first c.hear_capture-k.ensures.wrote) (c.write.ensures written)
+    written_enough hearing_of known _ _ (take n space) _ enough (put_first c.hear_capture-k.ensures.wrote) (c.write.ensures.whole written)
+
+pub returns-clause-kept : goal.returns-clause-kept
+returns-clause-kept g c unread = absurd (c.write.ensures.not_read unread)

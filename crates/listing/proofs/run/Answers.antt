@@ -5,12 +5,15 @@ use Rattle.listing.specs.Listing.{listing_of}
 use Rattle.listing.proofs.ListingLaws.{longer_listed}
 use Rattle.listing.proofs.run.Goals as goal
 
-pub returns : goal.returns
-returns g c written =
+pub returns-clause-whole : goal.returns-clause-whole
+returns-clause-whole g c written =
     let got = c.read_all-got in
     let space = got.new.space in
     let n = got.result.count in
     let known = g.R.Read.remaining c.args.from.now in
     let most : length space ≡ 65537 = omega arith in
     let enough = read_enough listing_of known _ space n got.ensures.prefix_len.0 got.ensures.read (got.ensures.whole c.if-got.false) (λ (xs ys : List ℕ) e. longer_listed xs ys (omega (arith, e, most))) in
-    written_enough listing_of known _ _ (take n space) _ enough (put_first c.list_log-k.ensures.wrote) (c.write.ensures written)
+    written_enough listing_of known _ _ (take n space) _ enough (put_first c.list_log-k.ensures.wrote) (c.write.ensures.whole written)
+
+pub returns-clause-kept : goal.returns-clause-kept
+returns-clause-kept g c unread = absurd (c.write.ensures.not_read unread)
