@@ -63,7 +63,8 @@ def main():
     for n in new:
         if "-" in n and new[n] in camel:
             twin = [m for m in new if "-" not in m and new[m] == new[n]]
-            if n not in KEPT | set(QUESTIONS) and any(n in words[p] and (set(twin) | {new[n]}) & words[p] for p in code):
+            apart = "crates/link1/" if n in KEPT | set(QUESTIONS) else "no crate"
+            if any(n in words[p] and (set(twin) | {new[n]}) & words[p] for p in code if not p.startswith(apart)):
                 new[n] += "_lem"
     for path in code:
         if not path.endswith(".antt") or os.path.basename(path) == "Proof.antt":
