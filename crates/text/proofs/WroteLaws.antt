@@ -53,7 +53,7 @@ put_one d at b h =
           ∙ sym (append_snoc (take at d) b (drop (at + 1) d));
     }
 
--- what `bytes::copy` into the part from at on leaves
+-- what a copy of xs into the part from at on leaves
 pub put_copy : (d : List ℕ) (at : ℕ) (xs : List ℕ) → at + length xs ≤ length d
     → take at d ++ ((take (length xs) xs ++ drop (length xs) (take (length d - at) (drop at d))) ++ drop (length d - at) (drop at d))
     ≡ pasted d at xs
