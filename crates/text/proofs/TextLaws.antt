@@ -15,7 +15,7 @@ use Rattle.std.specs.Fmt.{digits_onto, digits, decimal}
 use Rattle.text.specs.Digits.{last_digits, IsDigitCount}
 use Rattle.text.specs.Text.{dec_by, dec, dec_then, row}
 
--- ---- the digits that `io::decimal` counts and spells
+-- ---- the digits of a number of which it is known how many there are
 
 -- the least number of k + 2 digits is at most n
 least : (k n : ℕ) → IsDigitCount 10 1 n (suc (suc k)) → 10 ^ suc k ≤ n

@@ -1,3 +1,4 @@
+-- `hearing::fill` meets its contract. Assumes nothing.
 use Rattle.std.proofs.Common.{ℕ, ◌≡◌, ◌*◌, ◌≤◌, length, get_or, arith, refl, ap, ◌∙◌}
 use Rattle.text.proofs.CountLaws.{prefix_len_of_le}
 use Rattle.text.proofs.WroteLaws.{put_as}

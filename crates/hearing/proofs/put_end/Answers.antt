@@ -1,3 +1,4 @@
+-- `hearing::put_end` meets its contract. Assumes nothing.
 use Rattle.hearing.proofs.HearingLaws.{end_put, end_none}
 use Rattle.hearing.proofs.put_end.Goals as goal
 

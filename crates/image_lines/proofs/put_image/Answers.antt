@@ -1,3 +1,4 @@
+-- `image_lines::put_image` meets its contract. Assumes nothing.
 use Rattle.std.proofs.Common.{◌≡◌, [], ◌∷◌, arith}
 use Rattle.image_lines.specs.ImageLines.{numbers_of}
 use Rattle.image_lines.proofs.LineLaws.{image_put}

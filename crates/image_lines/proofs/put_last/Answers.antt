@@ -1,3 +1,4 @@
+-- `image_lines::put_last` meets its contract. Assumes nothing.
 use Rattle.std.proofs.Common.{arith}
 use Rattle.image_lines.specs.ImageLines.{last_line}
 use Rattle.text.proofs.WroteLaws.{put_put}

@@ -1,3 +1,4 @@
+-- `image_lines::put_refusal` meets its contract. Assumes nothing.
 use Rattle.std.proofs.Common.{◌≡◌, [], ◌∷◌, true, false, arith, sym, ◌∙◌}
 use Rattle.pair.specs.declared.Opened.TheVariants.{Refused}
 use Rattle.image_lines.specs.ImageLines.{has_bit, numbers_of}

@@ -1,3 +1,4 @@
+-- `listing::fill` meets its contract. Assumes nothing.
 use Rattle.std.proofs.Common.{◌≡◌, ◌+◌, ◌-◌, ◌*◌, ◌/◌, length, arith, refl, ap, ◌∙◌}
 use Rattle.text.proofs.WroteLaws.{put_none, put_as, put_put}
 use Rattle.listing.specs.Listing.{image_lines}

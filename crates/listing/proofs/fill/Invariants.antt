@@ -1,3 +1,4 @@
+-- The images so far are listed.
 use Rattle.std.proofs.Common.{◌≡◌, ◌+◌, ◌-◌, ◌*◌, ◌≤◌, length}
 use Rattle.text.specs.Wrote.{Wrote}
 use Rattle.listing.specs.Listing.{image_lines}

@@ -1,3 +1,4 @@
+-- `listing::run` meets its contract: what was read is the whole log, or is too long as the whole is. Assumes nothing.
 use Rattle.std.proofs.Common.{ℕ, ◌≡◌, List, length, take, arith}
 use Rattle.text.proofs.WroteLaws.{put_first}
 use Rattle.text.proofs.ReadLaws.{read_enough, written_enough}

@@ -1,3 +1,4 @@
+-- `text::put` meets its contract. Assumes nothing.
 use Rattle.std.proofs.Common.{refl}
 use Rattle.text.proofs.WroteLaws.{put_part}
 use Rattle.text.proofs.put.Goals as goal

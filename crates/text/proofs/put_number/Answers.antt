@@ -1,3 +1,4 @@
+-- `text::put_number` meets its contract. Assumes nothing.
 use Rattle.std.proofs.Common.{◌≤◌, ◌<◌, length, arith, ap, ◌∙◌}
 use Rattle.text.proofs.WroteLaws.{put_as, put_put, put_one}
 use Rattle.text.proofs.TextLaws.{decimal_is_dec, decimal_short, dec_before}

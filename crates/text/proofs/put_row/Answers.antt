@@ -1,3 +1,4 @@
+-- `text::put_row` meets its contract. Assumes nothing.
 use Rattle.std.proofs.Common.{ℕ, ◌≡◌, ◌-◌, length, take, arith, refl, sym, ap, ◌∙◌}
 use Rattle.text.proofs.WroteLaws.{put_none, put_as, put_put}
 use Rattle.text.proofs.TextLaws.{spaced, spaced_none, spaced_more, row_done}

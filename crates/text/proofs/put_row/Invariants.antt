@@ -1,3 +1,4 @@
+-- The numbers so far are put, a space behind each.
 use Rattle.std.proofs.Common.{◌≡◌, ◌+◌, ◌*◌, ◌-◌, ◌≤◌, length, take}
 use Rattle.text.specs.Wrote.{Wrote}
 use Rattle.text.proofs.TextLaws.{spaced}

@@ -1,3 +1,4 @@
+-- What was read so far stands at the start of the space.
 use Rattle.std.proofs.Common.{◌≡◌, ◌-◌, ◌≤◌, length, take}
 use Rattle.std.specs.Io.KnownBytes.{Consumes}
 use Rattle.text.proofs.read_all.Given as goal
