@@ -7,17 +7,18 @@ use Prim.Native.Nat.{ℕ, ◌≤◌}
 use native.Mathlib.Omega.{arith}
 use borrow.Author.Tests.{eq-eqb, ne_eqb, eqb-true}
 use lib.Dec.{eqb}
+use Rattle.std.specs.Prelude.{Result, Ok, Err}
 use Rattle.bits.specs.Tests.{pick, both, is_between}
 use Rattle.layout.specs.declared.Cause.{Cause}
 use Rattle.layout.specs.declared.Cause.TheVariants.{Pattern, Spare, Unused, TooWide}
 use Rattle.layout.specs.declared.Trouble.{Trouble}
 use Rattle.layout.specs.declared.Trouble.TheVariants.{Nothing, Wrong}
 use Rattle.layout.specs.Trouble.{is_nothing}
-use Rattle.bits.proofs.TestLaws.{both_true, between, in_between, clash}
+use Rattle.bits.proofs.TestLaws.{both_true, between, in_between, clash, zero_one}
 use Rattle.layout.proofs.LayoutLaws.{nothing_is}
 use Rattle.refusal.specs.Refusals.{success, no_frame, bad_pattern, spare_bit, unused_code, too_wide, numbered, cause_number, inside_at, troubled}
 use Rattle.refusal.specs.Table.{of_table, Step, stands_at, in_order, is_told, among}
-use Rattle.refusal.specs.Checks.{Check, test, inside, is_passed, told_by, first_refusal, on_success, answered}
+use Rattle.refusal.specs.Checks.{Check, test, inside, is_passed, told_by, first_refusal, on_success, answered, refusal_in}
 use Rattle.refusal.specs.declared.Refusal.{Refusal}
 
 -- ---- a refusal of the table (01, 'Numbers a caller may get back'; 02, items 4 and 6)
@@ -245,35 +246,34 @@ module _ {A : Type 0} (r : Refusal) (new old : A) where
   pub stays : {s : Refusal} → r ≡ s → Refuses s → on_success r new old ≡ old
   stays e h = left (λ z. h (sym (ap (λ (x : Refusal). x.number) e) ∙ z))
 
--- an answer that is an enum, by its refusal
-module _ {A : Type 0} (refused : Refusal → A) (value : A) where
-  pub answer_refused : {s r : Refusal} → s ≡ r → Refuses r → answered refused s value ≡ refused r
-  answer_refused {s} {r} e h = stays s value (refused s) e h ∙ ap refused e
+-- an answer, by its refusal
+module _ {A : Type 0} (value : A) where
+  pub answer_refused : {s r : Refusal} → s ≡ r → Refuses r → answered s value ≡ Err r
+  answer_refused {s} {r} e h = stays s (Ok value) (Err s) e h ∙ ap Err e
 
-  -- an answer that is no refusal is the value, and nothing was refused
-  pub answer_is : (s : Refusal) (v : A) → ((r : Refusal) → refused r ≡ v → ⊥) → answered refused s value ≡ v → (s.number ≡ success) × (value ≡ v)
-  answer_is s v h e = go (eqb s.number success) refl e
+  -- an answer that is a value is the value, and nothing was refused
+  pub answer_is : (s : Refusal) (v : A) → answered s value ≡ Ok v → (s.number ≡ success) × (value ≡ v)
+  answer_is s v e = go (eqb s.number success) refl e
     where
-      go : (t : Bool) → eqb s.number success ≡ t → pick t value (refused s) ≡ v → (s.number ≡ success) × (value ≡ v)
-      go true f q = (eqb-true _ _ f, q)
-      go false f q = absurd (h s q)
+      go : (t : Bool) → eqb s.number success ≡ t → pick t (Ok value) (Err s) ≡ Ok v → (s.number ≡ success) × (value ≡ v)
+      go true f q = (eqb-true _ _ f, cc)
+      go false f q = zero_one (cc)
 
   -- an answer that is a refusal is that of the checks
-  pub answer_not : (s r : Refusal) → (value ≡ refused r → ⊥) → ((x : Refusal) → refused x ≡ refused r → x ≡ r) → answered refused s value ≡ refused r → (s ≡ r) × Refuses r
-  answer_not s r h same e = go (eqb s.number success) refl e
+  pub answer_not : (s r : Refusal) → answered s value ≡ Err r → (s ≡ r) × Refuses r
+  answer_not s r e = go (eqb s.number success) refl e
     where
-      go : (t : Bool) → eqb s.number success ≡ t → pick t value (refused s) ≡ refused r → (s ≡ r) × Refuses r
-      go true f q = absurd (h q)
-      go false f q = let is = same s q in (is, λ z. clash (eq-eqb _ _ (ap (λ (x : Refusal). x.number) is ∙ z)) f)
+      go : (t : Bool) → eqb s.number success ≡ t → pick t (Ok value) (Err s) ≡ Err r → (s ≡ r) × Refuses r
+      go true f q = zero_one (cc)
+      go false f q = let is : s ≡ r = cc in (is, λ z. clash (eq-eqb _ _ (ap (λ (x : Refusal). x.number) is ∙ z)) f)
 
   -- the refusal of an answer is that of its checks
-  pub answer_tells : (refusalOf : A → Refusal) (cs : List Check) → all_refuse cs ≡ true → ((r : Refusal) → refusalOf (refused r) ≡ r) → refusalOf value ≡ numbered success
-      → refusalOf (answered refused (first_refusal cs) value) ≡ first_refusal cs
-  answer_tells refusalOf cs all whole none = go (eqb (first_refusal cs).number success) refl
+  pub answer_tells : (cs : List Check) → all_refuse cs ≡ true → refusal_in (answered (first_refusal cs) value) ≡ first_refusal cs
+  answer_tells cs all = go (eqb (first_refusal cs).number success) refl
     where
-      go : (t : Bool) → eqb (first_refusal cs).number success ≡ t → refusalOf (pick t value (refused (first_refusal cs))) ≡ first_refusal cs
-      go true f = none ∙ sym (success_whole cs all (eqb-true _ _ f))
-      go false f = whole (first_refusal cs)
+      go : (t : Bool) → eqb (first_refusal cs).number success ≡ t → refusal_in (pick t (Ok value) (Err (first_refusal cs))) ≡ first_refusal cs
+      go true f = sym (success_whole cs all (eqb-true _ _ f))
+      go false f = refl
 
 -- a call whose checks come in two stages, where the first stage has an answer of its own: its refusal is passed up whole; where it refuses
 -- nothing the second stage decides
@@ -284,32 +284,30 @@ module _ (cs ds : List Check) (all : all_refuse cs ≡ true) where
   pub more_passed : (first_refusal cs).number ≡ success → first_refusal (cs ++ ds) ≡ first_refusal ds
   more_passed z = first_more cs ds all ∙ given (first_refusal cs) _ _ z
 
-  module _ {A B : Type 0} (refused : Refusal → A) (value : A) (refused' : Refusal → B) (value' : B) where
-    pub stage_refused : (r : Refusal) → (value ≡ refused r → ⊥) → ((x : Refusal) → refused x ≡ refused r → x ≡ r)
-        → answered refused (first_refusal cs) value ≡ refused r → refused' r ≡ answered refused' (first_refusal (cs ++ ds)) value'
-    stage_refused r h same e =
-        let p = answer_not refused value (first_refusal cs) r h same e in sym (answer_refused refused' value' (more_refused p.0 p.1) p.1)
+  module _ {A B : Type 0} (value : A) (value' : B) where
+    pub stage_refused : (r : Refusal) → answered (first_refusal cs) value ≡ Err r → Err r ≡ answered (first_refusal (cs ++ ds)) value'
+    stage_refused r e = let p = answer_not value (first_refusal cs) r e in sym (answer_refused value' (more_refused p.0 p.1) p.1)
 
-    pub stage_passed : (v : A) → ((r : Refusal) → refused r ≡ v → ⊥) → answered refused (first_refusal cs) value ≡ v
-        → (value ≡ v) × (answered refused' (first_refusal ds) value' ≡ answered refused' (first_refusal (cs ++ ds)) value')
-    stage_passed v h e =
-        let p = answer_is refused value (first_refusal cs) v h e in
-        (p.1, sym (ap (λ (r : Refusal). answered refused' r value') (more_passed p.0)))
+    pub stage_passed : (v : A) → answered (first_refusal cs) value ≡ Ok v
+        → (value ≡ v) × (answered (first_refusal ds) value' ≡ answered (first_refusal (cs ++ ds)) value')
+    stage_passed v e =
+        let p = answer_is value (first_refusal cs) v e in (p.1, sym (ap (λ (r : Refusal). answered r value') (more_passed p.0)))
 
 -- an answer about the inside of message `place`: it is the value and nothing is wrong, or the refusal, which is passed up whole
-module _ {A : Type 0} (refused : Refusal → A) (value : A) (place : ℕ) where
-  pub inside_wrong : (c : Cause) (b : ℕ) → answered refused (troubled place (Wrong c b)) value ≡ refused (inside_at place c b)
-  inside_wrong c b = answer_refused refused value refl (wrong_refuses place c b)
+module _ {A : Type 0} (value : A) (place : ℕ) where
+  pub inside_wrong : (c : Cause) (b : ℕ) → answered (troubled place (Wrong c b)) value ≡ Err (inside_at place c b)
+  inside_wrong c b = answer_refused value refl (wrong_refuses place c b)
 
-  pub inside_value : (t : Trouble) (v : A) → ((r : Refusal) → refused r ≡ v → ⊥) → answered refused (troubled place t) value ≡ v → (t ≡ Nothing) × (value ≡ v)
-  inside_value Nothing v h e = (refl, e)
-  inside_value (Wrong c b) v h e = absurd (h (inside_at place c b) (sym (inside_wrong c b) ∙ e))
+  pub inside_value : (t : Trouble) (v : A) → answered (troubled place t) value ≡ Ok v → (t ≡ Nothing) × (value ≡ v)
+  inside_value Nothing v e = (refl, cc)
+  inside_value (Wrong c b) v e = let q : Err (inside_at place c b) ≡ Ok v = sym (inside_wrong c b) ∙ e in zero_one (cc)
 
-  pub inside_refused : (t : Trouble) (r : Refusal) → (value ≡ refused r → ⊥) → ((x : Refusal) → refused x ≡ refused r → x ≡ r)
-      → answered refused (troubled place t) value ≡ refused r → Refuses r × ((cs : List Check) → first_refusal (inside place t ∷ cs) ≡ r)
-  inside_refused Nothing r h same e = absurd (h e)
-  inside_refused (Wrong c b) r h same e =
-      let is : inside_at place c b ≡ r = same (inside_at place c b) (sym (inside_wrong c b) ∙ e) in
+  pub inside_refused : (t : Trouble) (r : Refusal) → answered (troubled place t) value ≡ Err r
+      → Refuses r × ((cs : List Check) → first_refusal (inside place t ∷ cs) ≡ r)
+  inside_refused Nothing r e = zero_one (cc)
+  inside_refused (Wrong c b) r e =
+      let q : Err (inside_at place c b) ≡ Err r = sym (inside_wrong c b) ∙ e in
+      let is : inside_at place c b ≡ r = cc in
       (λ z. wrong_refuses place c b (ap (λ (x : Refusal). x.number) is ∙ z), λ cs. is)
 
 -- ---- demand 1, of any checks: the refusal is one of the table, and what it leaves
@@ -321,15 +319,8 @@ module _ (cs : List Check) (all : all_refuse cs ≡ true) (bits : AllInMessage c
   buffer_left new old e f =
       (ap of_table e ∙ first_of_table cs all bits, λ h. f ∙ stays (first_refusal cs) new old (sym e) h)
 
-  -- of a call that answers an enum
-  pub refusal_told : {A : Type 0} (refused : Refusal → A) (refusalOf : A → Refusal) (value : A) {r : A} → ((x : Refusal) → refusalOf (refused x) ≡ x)
-      → refusalOf value ≡ numbered success → ((x : Refusal) → value ≡ refused x → ⊥) → r ≡ answered refused (first_refusal cs) value
-      → (of_table (refusalOf r) ≡ true) × ((x : Refusal) → r ≡ refused x → Refuses x)
-  refusal_told refused refusalOf value {r} whole none other e =
-      let tells = ap refusalOf e ∙ answer_tells refused value refusalOf cs all whole none in
-      (ap of_table tells ∙ first_of_table cs all bits, λ x q z. other x (sym (given (first_refusal cs) value (refused (first_refusal cs)) (number x q z)) ∙ sym e ∙ q))
-    where
-      number : (x : Refusal) → r ≡ refused x → x.number ≡ success → (first_refusal cs).number ≡ success
-      number x q z =
-          sym (ap (λ (y : Refusal). y.number) (ap refusalOf e ∙ answer_tells refused value refusalOf cs all whole none))
-          ∙ ap (λ (y : Refusal). y.number) (ap refusalOf q ∙ whole x) ∙ z
+  -- of any call that answers a value or a refusal: what it refuses is never a success
+  pub refusal_told : {A : Type 0} (value : A) {r : Result A Refusal} → r ≡ answered (first_refusal cs) value
+      → (of_table (refusal_in r) ≡ true) × ((x : Refusal) → r ≡ Err x → Refuses x)
+  refusal_told value e =
+      (ap of_table (ap refusal_in e ∙ answer_tells value cs all) ∙ first_of_table cs all bits, λ x q. (answer_not value (first_refusal cs) x (sym e ∙ q)).1)

@@ -1,6 +1,6 @@
 -- 01, 'Orders of checks': each call has its checks in one order, the first that is not passed is told, and a refusal changes nothing. 02,
 -- item 4: of a message the first trouble is told.
-use Rattle.std.specs.Prelude.{Bool, List, [], ◌∷◌, ℕ, eqb}
+use Rattle.std.specs.Prelude.{Bool, List, [], ◌∷◌, ℕ, eqb, Result, Ok, Err}
 use Rattle.bits.specs.Tests.{pick}
 use Rattle.layout.specs.Trouble.{is_nothing}
 use Rattle.layout.specs.declared.Trouble.{Trouble}
@@ -37,6 +37,11 @@ first_refusal (c ∷ cs) = pick (is_passed c) (first_refusal cs) (told_by c)
 abbrev pub on_success {ℓ} : {A : Type ℓ} → Refusal → A → A → A
 on_success refusal new old = pick (eqb refusal.number success) new old
 
--- an answer that is an enum, by 01's number of each case: at number 0 the value, at any other the refusal, with its place and bit
-abbrev pub answered : {A : Type 0} → (Refusal → A) → Refusal → A → A
-answered refused refusal value = on_success refusal value (refused refusal)
+-- an answer: at number 0 the value, at any other the refusal, with its place and bit
+abbrev pub answered : {A : Type 0} → Refusal → A → Result A Refusal
+answered refusal value = on_success refusal (Ok value) (Err refusal)
+
+-- 01's number and place of each case of an answer, and 02's bit
+abbrev pub refusal_in : {A : Type 0} → Result A Refusal → Refusal
+refusal_in (Ok value) = numbered success
+refusal_in (Err refusal) = refusal

@@ -5,6 +5,7 @@
 
 ghost use Rattle.std.specs.Prelude.{◌≡◌};
 ghost use Rattle.refusal.specs.Refusals.{numbered, numbered_at, numbered_in, cause_number, inside_at};
+ghost use Rattle.refusal.specs.Checks as checks;
 
 use layout::Cause;
 
@@ -85,4 +86,14 @@ pub fn refuse(place: u8, cause: Cause, bit: u8) -> Refusal
     ensures { result ≡ inside_at place cause bit }
 {
     Refusal::inside(number_of(cause), place, bit)
+}
+
+// An answer as a number, a place and a bit: a success is number, place and bit 0.
+pub fn refusal_in<T>(answer: &Result<T, Refusal>) -> Refusal
+    ensures { result ≡ checks.refusal_in answer.now }
+{
+    match answer {
+        Ok(_) => Refusal::of(SUCCESS),
+        Err(refusal) => *refusal,
+    }
 }
