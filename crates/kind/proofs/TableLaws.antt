@@ -10,7 +10,7 @@ use lib.Dec.{T, leb, ltb, eqb}
 use lib.ListN.{length, take, get_or}
 use Rattle.bits.specs.Tests.{both}
 use Rattle.layout.specs.Layout.{Field, Values}
-use Rattle.layout.specs.Rules.{widths_of, rules_of, raw_of, total}
+use Rattle.layout.specs.Rules.{slots_of, rules_of, raw_of, total}
 use Rattle.kind.specs.Layouts.{all_kinds, number_of, label_of, Placed, bits_of, layout_of}
 use Rattle.kind.specs.Tables.{padded, table_of}
 use Rattle.kind.specs.declared.Kind.{Kind}
@@ -25,7 +25,7 @@ cut n [] h = refl
 cut zero (x ∷ xs) h = absurd (not-suc-le-zero h)
 cut (suc n) (x ∷ xs) h = ap (λ (l : List ℕ). x ∷ l) (cut n xs (le_of_suc-le-suc h))
 
-pub length_widths : (fs : List Field) → length (widths_of fs) ≡ length fs
+pub length_widths : (fs : List Field) → length (slots_of fs) ≡ length fs
 length_widths [] = refl
 length_widths (f ∷ fs) = ap suc (length_widths fs)
 
@@ -61,13 +61,13 @@ each f g e k = sym (row_at f k (g k)) ∙ ap (λ (rows : List _). get_or rows (n
 abbrev lawful : Kind → Bool
 lawful k =
     both (ltb (label_of k) 64)
-    (both (leb (length (layout_of k)) 12) (both (eqb (total (widths_of (layout_of k))) 43) (are_sound (layout_of k))))
+    (both (leb (length (layout_of k)) 12) (both (eqb (total (slots_of (layout_of k))) 43) (are_sound (layout_of k))))
 
 laid : (k : Kind) → lawful k ≡ true
 laid = each lawful (λ k. true) refl
 
 module _ (k : Kind) where
-  parts : (ltb (label_of k) 64 ≡ true) × (leb (length (layout_of k)) 12 ≡ true) × (eqb (total (widths_of (layout_of k))) 43 ≡ true) × (are_sound (layout_of k) ≡ true)
+  parts : (ltb (label_of k) 64 ≡ true) × (leb (length (layout_of k)) 12 ≡ true) × (eqb (total (slots_of (layout_of k))) 43 ≡ true) × (are_sound (layout_of k) ≡ true)
   parts = let p = both_true (laid k) in let q = both_true p.1 in let r = both_true q.1 in (p.0, q.0, r.0, r.1)
 
   pub label_lt : label_of k < 64
@@ -76,7 +76,7 @@ module _ (k : Kind) where
   pub short : length (layout_of k) ≤ 12
   short = leb-true _ _ parts.1
 
-  pub wide : total (widths_of (layout_of k)) ≡ 43
+  pub wide : total (slots_of (layout_of k)) ≡ 43
   wide = eqb-true _ _ parts.2
 
   pub sound : T (are_sound (layout_of k))
@@ -111,11 +111,11 @@ module _ (t : Table) (k : Kind) (e : t ≡ table_of (layout_of k)) where
   counted : t.count ≡ length (layout_of k)
   counted = ap (λ (x : Table). x.count) e
 
-  pub widths_are : take (t.count - 0) t.widths ≡ widths_of (layout_of k)
-  widths_are = part_is k t.count t.widths (widths_of (layout_of k)) counted (ap (λ (x : Table). x.widths) e) (length_widths (layout_of k))
+  pub widths_are : take (t.count - 0) t.widths ≡ slots_of (layout_of k)
+  widths_are = part_is k t.count t.widths (slots_of (layout_of k)) counted (ap (λ (x : Table). x.widths) e) (length_widths (layout_of k))
 
   pub widths_end : t.count ≤ length t.widths
-  widths_end = part_ends k t.count t.widths (widths_of (layout_of k)) counted (ap (λ (x : Table). x.widths) e) (length_widths (layout_of k))
+  widths_end = part_ends k t.count t.widths (slots_of (layout_of k)) counted (ap (λ (x : Table). x.widths) e) (length_widths (layout_of k))
 
   pub rules_are : take (t.count - 0) t.rules ≡ rules_of (layout_of k)
   rules_are = part_is k t.count t.rules (rules_of (layout_of k)) counted (ap (λ (x : Table). x.rules) e) (length_rules (layout_of k))

@@ -9,15 +9,14 @@ use borrow.Author.Tests.{lt-ltb, ltb-true}
 use lib.Dec.{T, eqb, leb, ltb, eqb→eq, leb→le, lt→ltb, ltb→lt}
 use lib.Pow.{pow_pos, pow-add, shr-shr}
 use lib.Signed.{mag}
+use Rattle.std.specs.Prelude.{Ok, Err}
 use Rattle.bits.specs.Tests.{pick, both}
 use Rattle.bits.specs.Twos.{signed_of, unsigned_of}
 use Rattle.layout.specs.Layout.{Field, pattern, spare, number, code, flag, signed, width_of, Value, Values, read_as, write_as, split, join}
-use Rattle.layout.specs.Trouble.{is_nothing, or_else, none_of, trouble_in, misfit_in, trouble, misfit, allowed, fits}
+use Rattle.layout.specs.Trouble.{Checked, nothing, wrong, is_nothing, or_else, none_of, trouble_in, misfit_in, trouble, misfit, allowed, fits}
 use Rattle.bits.specs.Numbers.{bit, field_of}
 use Rattle.layout.specs.declared.Cause.{Cause}
 use Rattle.layout.specs.declared.Cause.TheVariants.{Pattern, Spare, Unused, TooWide}
-use Rattle.layout.specs.declared.Trouble.{Trouble}
-use Rattle.layout.specs.declared.Trouble.TheVariants.{Nothing, Wrong}
 use Rattle.bits.proofs.TestLaws.{to_t, both_left, both_right, both_intro}
 use Rattle.bits.proofs.TwosLaws.{unsigned_signed, signed_range, signed_unsigned}
 
@@ -109,18 +108,18 @@ read_write (signed k) v t = go (ltb (mag v) (2 ^ k)) refl (in_width (signed k) (
 
 -- ---- nothing is wrong where every field's bits are allowed, whatever the bit at which the layout begins
 
-pub nothing_is : (t : Trouble) → is_nothing t ≡ true → t ≡ Nothing
-nothing_is Nothing e = refl
-nothing_is (Wrong c b) e = absurd (to_t e)
+pub nothing_is : (t : Checked) → is_nothing t ≡ true → t ≡ nothing
+nothing_is (Ok u) e = refl
+nothing_is (Err t) e = absurd (to_t e)
 
-nothing_if : (b : Bool) (c : Cause) (e : ℕ) → is_nothing (pick b Nothing (Wrong c e)) ≡ b
+nothing_if : (b : Bool) (c : Cause) (e : ℕ) → is_nothing (pick b nothing (wrong c e)) ≡ b
 nothing_if true c e = refl
 nothing_if false c e = refl
 
-nothing_or : (t u : Trouble) → is_nothing (or_else t u) ≡ both (is_nothing t) (is_nothing u)
-nothing_or Nothing u = refl
-nothing_or (Wrong c b) Nothing = refl
-nothing_or (Wrong c b) (Wrong d e) = refl
+nothing_or : (t u : Checked) → is_nothing (or_else t u) ≡ both (is_nothing t) (is_nothing u)
+nothing_or (Ok fine) u = refl
+nothing_or (Err t) (Ok u) = refl
+nothing_or (Err t) (Err s) = refl
 
 nothing_in : (at : ℕ) (f : Field) (n : ℕ) → is_nothing (trouble_in at f n) ≡ allows f n
 nothing_in at (pattern k c) n = nothing_if (eqb n c) Pattern _
@@ -137,13 +136,13 @@ pub allowed_more : (at : ℕ) (f : Field) (fs : List Field) (w : ℕ)
     → allowed at (f ∷ fs) w ≡ both (allows f (field_of w at (width_of f))) (allowed (at + width_of f) fs w)
 allowed_more at f fs w =
     let n : ℕ = field_of w at (width_of f) in
-    let u : Trouble = trouble (at + width_of f) fs w in
+    let u : Checked = trouble (at + width_of f) fs w in
     nothing_or (trouble_in at f n) u ∙ ap (λ (b : Bool). both b (is_nothing u)) (nothing_in at f n)
 
 nothing_misfit : (at : ℕ) (f : Field) (n : ℕ) → is_nothing (misfit_in at f n) ≡ in_field f n
 nothing_misfit at f n = go (ltb n (2 ^ width_of f)) _
   where
-    go : (b : Bool) (lowest : ℕ) → is_nothing (pick b (trouble_in at f n) (Wrong TooWide lowest)) ≡ both b (allows f n)
+    go : (b : Bool) (lowest : ℕ) → is_nothing (pick b (trouble_in at f n) (wrong TooWide lowest)) ≡ both b (allows f n)
     go true lowest = nothing_in at f n
     go false lowest = refl
 

@@ -11,17 +11,16 @@ use lib.Dec.{T, eqb, ltb, lit<, leb→le}
 use lib.ListN.{length, drop, get_or, drop_of_length-le}
 use lib.Pow.{pow_pos}
 use lib.Seq.{drop-cons}
+use Rattle.std.specs.Prelude.{Result, Ok, Err}
 use Rattle.bits.specs.Tests.{pick}
 use Rattle.bits.specs.Numbers.{bit, num_of, field_of, placed_of}
 use Rattle.layout.specs.Layout.{Field, pattern, spare, number, code, flag, signed, width_of, Values, write_as, join}
-use Rattle.layout.specs.Trouble.{or_else, agreeing, differing, none_of, trouble_in, misfit_in, trouble, misfit}
-use Rattle.layout.specs.Rules.{rule_of, rule_trouble, rule_misfit, widths_of, rules_of, raw_of, total, ruled, fitting, sum_at, packed_if, packed_of}
+use Rattle.layout.specs.Trouble.{Checked, nothing, wrong, or_else, agreeing, differing, none_of, trouble_in, misfit_in, trouble, misfit}
+use Rattle.layout.specs.Rules.{rule_of, slots_of, rule_trouble, rule_misfit, raw_of, total, ruled, fitting, sum_at, packed_if, packed_of}
 use Rattle.layout.specs.declared.Cause.{Cause}
 use Rattle.layout.specs.declared.Cause.TheVariants.{Pattern, Spare, Unused, TooWide}
+use Rattle.layout.specs.declared.Slot.{Slot}
 use Rattle.layout.specs.declared.Trouble.{Trouble}
-use Rattle.layout.specs.declared.Trouble.TheVariants.{Nothing, Wrong}
-use Rattle.layout.specs.declared.Packed.{Packed}
-use Rattle.layout.specs.declared.Packed.TheVariants as P
 use Rattle.bits.proofs.TestLaws.{zero_one}
 use Rattle.layout.proofs.LayoutLaws.{is_sayable, are_sound, sayable, pattern_short, first_sound, rest_sound}
 use Rattle.layout.proofs.LowestLaws.{agreeing_enough}
@@ -29,7 +28,7 @@ use Rattle.bits.proofs.NumberLaws.{num_bit, num_lt, placed_lt}
 
 -- ---- a rule says what its field allows
 
-pub no_rule : (at n : ℕ) → rule_trouble at 0 n ≡ Nothing
+pub no_rule : (at n : ℕ) → rule_trouble at 0 n ≡ nothing
 no_rule at n = rw (eq-eqb (0 / 2 ^ n % 2) 0 (ap (λ (x : ℕ). x % 2) (zero-div (2 ^ n))))
 
 bit_lt : (b : Bool) → bit b < 2
@@ -41,21 +40,21 @@ bit_not true = refl
 bit_not false = refl
 
 rule_code : (at : ℕ) (unused : List ℕ) (n : ℕ) → n < 16
-    → rule_trouble at (num_of (λ i. bit (not (none_of unused i))) 16) n ≡ pick (none_of unused n) Nothing (Wrong Unused (at + 1))
+    → rule_trouble at (num_of (λ i. bit (not (none_of unused i))) 16) n ≡ pick (none_of unused n) nothing (wrong Unused (at + 1))
 rule_code at unused n h =
     let f : ℕ → ℕ = λ i. bit (not (none_of unused i)) in
     let b : (i : ℕ) → f i < 2 = λ i. bit_lt (not (none_of unused i)) in
     let l : num_of f 16 < 2 ^ 16 = num_lt f 16 (λ i _. b i) in
     rw (lt-leb (2 ^ 63) (num_of f 16) (omega arith), lt-leb (2 ^ 62) (num_of f 16) (omega arith), num_bit f 16 n b h)
-    (ap (λ (b : Bool). pick b Nothing (Wrong Unused (at + 1))) (bit_not (none_of unused n)))
+    (ap (λ (b : Bool). pick b nothing (wrong Unused (at + 1))) (bit_not (none_of unused n)))
 
 -- the code looks at all 64 bits
 differing_same : (d : Cause) (at k n x : ℕ) → k ≤ 64 → n < 2 ^ k → x < 2 ^ k → differing d at 64 n x ≡ differing d at k n x
 differing_same d at k n x l h g = go (eqb n x) refl
   where
-    go : (t : Bool) → eqb n x ≡ t → pick t Nothing (Wrong d (at + agreeing 64 n x + 1)) ≡ pick t Nothing (Wrong d (at + agreeing k n x + 1))
+    go : (t : Bool) → eqb n x ≡ t → pick t nothing (wrong d (at + agreeing 64 n x + 1)) ≡ pick t nothing (wrong d (at + agreeing k n x + 1))
     go true e = refl
-    go false e = ap (λ (i : ℕ). Wrong d (at + i + 1)) (agreeing_enough k 64 n x l h g (eqb-false n x e))
+    go false e = ap (λ (i : ℕ). wrong d (at + i + 1)) (agreeing_enough k 64 n x l h g (eqb-false n x e))
 
 rule_field : (at : ℕ) (f : Field) (n : ℕ) → T (is_sayable f) → n < 2 ^ width_of f → rule_trouble at (rule_of f) n ≡ trouble_in at f n
 rule_field at (pattern k c) n t h =
@@ -69,7 +68,7 @@ rule_field at (code k unused) n t h = rule_code at unused n (lt_of_lt_of_le h (l
 rule_field at flag n t h = no_rule at n
 rule_field at (signed k) n t h = no_rule at n
 
-pub ruled_layout : (at : ℕ) (fs : List Field) (word : ℕ) → T (are_sound fs) → ruled at (widths_of fs) (rules_of fs) word ≡ trouble at fs word
+pub ruled_layout : (at : ℕ) (fs : List Field) (word : ℕ) → T (are_sound fs) → ruled at (slots_of fs) word ≡ trouble at fs word
 ruled_layout at [] word t = refl
 ruled_layout at (f ∷ fs) word t =
     ap₂ or_else (rule_field at f (field_of word at (width_of f)) (sayable f (first_sound f fs t)) (mod-lt _ (pow_pos (width_of f))))
@@ -78,106 +77,110 @@ ruled_layout at (f ∷ fs) word t =
 misfit_field : (at : ℕ) (f : Field) (n : ℕ) → T (is_sayable f) → rule_misfit at (width_of f) (rule_of f) n ≡ misfit_in at f n
 misfit_field at f n t = go (ltb n (2 ^ width_of f)) _ refl
   where
-    go : (b : Bool) (lowest : ℕ) → ltb n (2 ^ width_of f) ≡ b → pick b (rule_trouble at (rule_of f) n) (Wrong TooWide lowest) ≡ pick b (trouble_in at f n) (Wrong TooWide lowest)
+    go : (b : Bool) (lowest : ℕ) → ltb n (2 ^ width_of f) ≡ b → pick b (rule_trouble at (rule_of f) n) (wrong TooWide lowest) ≡ pick b (trouble_in at f n) (wrong TooWide lowest)
     go true lowest e = rule_field at f n t (ltb-true _ _ e)
     go false lowest e = refl
 
-fitting_layout : (at : ℕ) (fs : List Field) (vs : Values fs) → T (are_sound fs) → fitting at (widths_of fs) (rules_of fs) (raw_of fs vs) ≡ misfit at fs vs
+fitting_layout : (at : ℕ) (fs : List Field) (vs : Values fs) → T (are_sound fs) → fitting at (slots_of fs) (raw_of fs vs) ≡ misfit at fs vs
 fitting_layout at [] vs t = refl
 fitting_layout at (f ∷ fs) vs t =
     ap₂ or_else (misfit_field at f (write_as f vs.0) (sayable f (first_sound f fs t)))
     (fitting_layout (at + width_of f) fs vs.1 (rest_sound f fs t))
 
-sum_layout : (at : ℕ) (fs : List Field) (vs : Values fs) → sum_at at (widths_of fs) (raw_of fs vs) ≡ join at fs vs
+sum_layout : (at : ℕ) (fs : List Field) (vs : Values fs) → sum_at at (slots_of fs) (raw_of fs vs) ≡ join at fs vs
 sum_layout at [] vs = refl
 sum_layout at (f ∷ fs) vs = ap (λ (n : ℕ). write_as f vs.0 * 2 ^ at + n) (sum_layout (at + width_of f) fs vs.1)
 
--- packing by a layout's table joins the values, if nothing is wrong with them
+-- packing by a layout's slots joins the values, if nothing is wrong with them
 pub packed_layout : (word low : ℕ) (fs : List Field) (vs : Values fs) → T (are_sound fs)
-    → packed_of word low (widths_of fs) (rules_of fs) (raw_of fs vs) ≡ packed_if (misfit low fs vs) (join low fs vs + word)
+    → packed_of word low (slots_of fs) (raw_of fs vs) ≡ packed_if (misfit low fs vs) (join low fs vs + word)
 unfolding packed_of
-packed_layout word low fs vs t = ap₂ (λ (u : Trouble) (n : ℕ). packed_if u (n + word)) (fitting_layout low fs vs t) (sum_layout low fs vs)
+packed_layout word low fs vs t = ap₂ (λ (u : Checked) (n : ℕ). packed_if u (n + word)) (fitting_layout low fs vs t) (sum_layout low fs vs)
 
 -- what was packed says what is wrong
-pub packed_word : (t : Trouble) (n w : ℕ) → packed_if t n ≡ P.Word w → (t ≡ Nothing) × (n ≡ w)
-packed_word Nothing n w e = (refl, cc)
-packed_word (Wrong c b) n w e = zero_one (cc)
+pub packed_word : (t : Checked) (n w : ℕ) → packed_if t n ≡ Ok w → (t ≡ nothing) × (n ≡ w)
+packed_word (Ok u) n w e = (refl, cc)
+packed_word (Err t) n w e = zero_one (cc)
 
-pub packed_wrong : (t : Trouble) (n : ℕ) (c : Cause) (b : ℕ) → packed_if t n ≡ P.Wrong c b → t ≡ Wrong c b
-packed_wrong Nothing n c b e = zero_one (cc)
-packed_wrong (Wrong d a) n c b e = cc
+pub packed_wrong : (t : Checked) (n : ℕ) (s : Trouble) → packed_if t n ≡ Err s → t ≡ Err s
+packed_wrong (Ok u) n s e = zero_one (cc)
+packed_wrong (Err t) n s e = cc
 
 -- ---- a turn of the loops
 
-total_step : (ws : List ℕ) (i : ℕ) → i < length ws → total (drop i ws) ≡ get_or ws i 0 + total (drop (i + 1) ws)
-total_step ws i h = rw (add-one i, drop-cons ws i 0 h)
+abbrev pub no_slot : Slot
+no_slot = record { width = 0; rule = 0 }
+
+-- slot i
+abbrev pub slot_at : List Slot → ℕ → Slot
+slot_at ss i = get_or ss i no_slot
+
+total_step : (ss : List Slot) (i : ℕ) → i < length ss → total (drop i ss) ≡ (slot_at ss i).width + total (drop (i + 1) ss)
+total_step ss i h = rw (add-one i, drop-cons ss i no_slot h)
 
 -- where the loop over a word's fields stands: field i, at weight 2 ^ at; t is the answer
-pub record Ruling (t : Trouble) (word : ℕ) (ws rs : List ℕ) (at i : ℕ) : Type 0 where
-  pub to : i ≤ length ws
-  pub room : at + total (drop i ws) < 64
-  pub rest : t ≡ ruled at (drop i ws) (drop i rs) word
+pub record Ruling (t : Checked) (word : ℕ) (ss : List Slot) (at i : ℕ) : Type 0 where
+  pub room : at + total (drop i ss) < 64
+  pub rest : t ≡ ruled at (drop i ss) word
 
-module _ {t : Trouble} {word : ℕ} {ws rs : List ℕ} {at i : ℕ} (s : Ruling t word ws rs at i) (lw : i < length ws) (lr : i < length rs) where
-  pub ruling_room : at + get_or ws i 0 < 64
-  ruling_room = omega (arith, s.room, total_step ws i lw)
+module _ {t : Checked} {word : ℕ} {ss : List Slot} {at i : ℕ} (s : Ruling t word ss at i) (l : i < length ss) where
+  pub ruling_room : at + (slot_at ss i).width < 64
+  ruling_room = omega (arith, s.room, total_step ss i l)
 
-  ruling_step : t ≡ or_else (rule_trouble at (get_or rs i 0) (field_of word at (get_or ws i 0))) (ruled (at + get_or ws i 0) (drop (i + 1) ws) (drop (i + 1) rs) word)
-  ruling_step = s.rest ∙ rw (add-one i, drop-cons ws i 0 lw, drop-cons rs i 0 lr)
+  ruling_step : t ≡ or_else (rule_trouble at (slot_at ss i).rule (field_of word at (slot_at ss i).width)) (ruled (at + (slot_at ss i).width) (drop (i + 1) ss) word)
+  ruling_step = s.rest ∙ rw (add-one i, drop-cons ss i no_slot l)
 
-  pub ruling_more : rule_trouble at (get_or rs i 0) (field_of word at (get_or ws i 0)) ≡ Nothing → Ruling t word ws rs (at + get_or ws i 0) (i + 1)
-  ruling_more e = record { to = omega arith; room = omega (arith, s.room, total_step ws i lw); rest = ruling_step ∙ rw e }
+  pub ruling_more : rule_trouble at (slot_at ss i).rule (field_of word at (slot_at ss i).width) ≡ nothing → Ruling t word ss (at + (slot_at ss i).width) (i + 1)
+  ruling_more e = record { room = omega (arith, s.room, total_step ss i l); rest = ruling_step ∙ rw e }
 
-  pub ruling_bad : {c : Cause} {b : ℕ} → rule_trouble at (get_or rs i 0) (field_of word at (get_or ws i 0)) ≡ Wrong c b → t ≡ Wrong c b
+  pub ruling_bad : {x : Trouble} → rule_trouble at (slot_at ss i).rule (field_of word at (slot_at ss i).width) ≡ Err x → t ≡ Err x
   ruling_bad e = ruling_step ∙ rw e
 
-pub ruling_done : {t : Trouble} {word : ℕ} {ws rs : List ℕ} {at i : ℕ} → Ruling t word ws rs at i → length ws ≤ i → t ≡ pick (eqb (word / 2 ^ at) 0) Nothing (Wrong Spare (at + 1))
-ruling_done {ws = ws} {i = i} s h = s.rest ∙ rw (drop_of_length-le ws h)
+pub ruling_done : {t : Checked} {word : ℕ} {ss : List Slot} {at i : ℕ} → Ruling t word ss at i → length ss ≤ i → t ≡ pick (eqb (word / 2 ^ at) 0) nothing (wrong Spare (at + 1))
+ruling_done {ss = ss} {i = i} s h = s.rest ∙ rw (drop_of_length-le ss h)
 
 -- where the loop that packs stands; p is the answer
-pub record Packing (p : Packed) (word : ℕ) (ws rs ns : List ℕ) (at i : ℕ) : Type 0 where
-  pub to : i ≤ length ws
-  pub room : at + total (drop i ws) < 64
+pub record Packing (p : Result ℕ Trouble) (word : ℕ) (ss : List Slot) (ns : List ℕ) (at i : ℕ) : Type 0 where
+  pub room : at + total (drop i ss) < 64
   pub low : word < 2 ^ at
-  pub rest : p ≡ packed_of word at (drop i ws) (drop i rs) (drop i ns)
+  pub rest : p ≡ packed_of word at (drop i ss) (drop i ns)
 
 -- a number with which nothing is wrong is not too wide
-misfit_lt : (at w r n : ℕ) → rule_misfit at w r n ≡ Nothing → n < 2 ^ w
+misfit_lt : (at w r n : ℕ) → rule_misfit at w r n ≡ nothing → n < 2 ^ w
 misfit_lt at w r n = go (ltb n (2 ^ w)) _ refl
   where
-    go : (b : Bool) (lowest : ℕ) → ltb n (2 ^ w) ≡ b → pick b (rule_trouble at r n) (Wrong TooWide lowest) ≡ Nothing → n < 2 ^ w
+    go : (b : Bool) (lowest : ℕ) → ltb n (2 ^ w) ≡ b → pick b (rule_trouble at r n) (wrong TooWide lowest) ≡ nothing → n < 2 ^ w
     go true lowest q e = ltb-true _ _ q
     go false lowest q e = zero_one (cc)
 
-module _ {p : Packed} {word : ℕ} {ws rs ns : List ℕ} {at i : ℕ} (s : Packing p word ws rs ns at i) (lw : i < length ws) (lr : i < length rs) (ln : i < length ns) where
-  pub packing_room : at + get_or ws i 0 < 64
-  packing_room = omega (arith, s.room, total_step ws i lw)
+module _ {p : Result ℕ Trouble} {word : ℕ} {ss : List Slot} {ns : List ℕ} {at i : ℕ} (s : Packing p word ss ns at i) (ls : i < length ss) (ln : i < length ns) where
+  pub packing_room : at + (slot_at ss i).width < 64
+  packing_room = omega (arith, s.room, total_step ss i ls)
 
-  pub packing_lt : rule_misfit at (get_or ws i 0) (get_or rs i 0) (get_or ns i 0) ≡ Nothing → get_or ns i 0 < 2 ^ get_or ws i 0
-  packing_lt e = misfit_lt at (get_or ws i 0) (get_or rs i 0) (get_or ns i 0) e
+  pub packing_lt : rule_misfit at (slot_at ss i).width (slot_at ss i).rule (get_or ns i 0) ≡ nothing → get_or ns i 0 < 2 ^ (slot_at ss i).width
+  packing_lt e = misfit_lt at (slot_at ss i).width (slot_at ss i).rule (get_or ns i 0) e
 
-  packing_step : p ≡ packed_of word at (get_or ws i 0 ∷ drop (i + 1) ws) (get_or rs i 0 ∷ drop (i + 1) rs) (get_or ns i 0 ∷ drop (i + 1) ns)
-  packing_step = s.rest ∙ rw (add-one i, drop-cons ws i 0 lw, drop-cons rs i 0 lr, drop-cons ns i 0 ln)
+  packing_step : p ≡ packed_of word at (slot_at ss i ∷ drop (i + 1) ss) (get_or ns i 0 ∷ drop (i + 1) ns)
+  packing_step = s.rest ∙ rw (add-one i, drop-cons ss i no_slot ls, drop-cons ns i 0 ln)
 
-  pub packing_more : rule_misfit at (get_or ws i 0) (get_or rs i 0) (get_or ns i 0) ≡ Nothing
-      → Packing p (placed_of word at (get_or ns i 0)) ws rs ns (at + get_or ws i 0) (i + 1)
+  pub packing_more : rule_misfit at (slot_at ss i).width (slot_at ss i).rule (get_or ns i 0) ≡ nothing
+      → Packing p (placed_of word at (get_or ns i 0)) ss ns (at + (slot_at ss i).width) (i + 1)
   unfolding packed_of
   packing_more e =
       record {
-        to = omega arith;
-        room = omega (arith, s.room, total_step ws i lw);
-        low = placed_lt word at (get_or ws i 0) (get_or ns i 0) s.low (packing_lt e);
-        rest = packing_step ∙ rw e (ap (packed_if (fitting (at + get_or ws i 0) (drop (i + 1) ws) (drop (i + 1) rs) (drop (i + 1) ns))) sums);
+        room = omega (arith, s.room, total_step ss i ls);
+        low = placed_lt word at (slot_at ss i).width (get_or ns i 0) s.low (packing_lt e);
+        rest = packing_step ∙ rw e (ap (packed_if (fitting (at + (slot_at ss i).width) (drop (i + 1) ss) (drop (i + 1) ns))) sums);
       }
     where
-      sums : get_or ns i 0 * 2 ^ at + sum_at (at + get_or ws i 0) (drop (i + 1) ws) (drop (i + 1) ns) + word
-          ≡ sum_at (at + get_or ws i 0) (drop (i + 1) ws) (drop (i + 1) ns) + (get_or ns i 0 * 2 ^ at + word)
+      sums : get_or ns i 0 * 2 ^ at + sum_at (at + (slot_at ss i).width) (drop (i + 1) ss) (drop (i + 1) ns) + word
+          ≡ sum_at (at + (slot_at ss i).width) (drop (i + 1) ss) (drop (i + 1) ns) + (get_or ns i 0 * 2 ^ at + word)
       sums = omega arith
 
-  pub packing_bad : {c : Cause} {b : ℕ} → rule_misfit at (get_or ws i 0) (get_or rs i 0) (get_or ns i 0) ≡ Wrong c b → p ≡ P.Wrong c b
+  pub packing_bad : {x : Trouble} → rule_misfit at (slot_at ss i).width (slot_at ss i).rule (get_or ns i 0) ≡ Err x → p ≡ Err x
   unfolding packed_of
   packing_bad e = packing_step ∙ rw e
 
-pub packing_done : {p : Packed} {word : ℕ} {ws rs ns : List ℕ} {at i : ℕ} → Packing p word ws rs ns at i → length ws ≤ i → p ≡ P.Word word
+pub packing_done : {p : Result ℕ Trouble} {word : ℕ} {ss : List Slot} {ns : List ℕ} {at i : ℕ} → Packing p word ss ns at i → length ss ≤ i → p ≡ Ok word
 unfolding packed_of
-packing_done {word = word} {ws = ws} {i = i} s h = s.rest ∙ rw (drop_of_length-le ws h, zero-add word)
+packing_done {word = word} {ss = ss} {i = i} s h = s.rest ∙ rw (drop_of_length-le ss h, zero-add word)

@@ -10,16 +10,15 @@ use native.Mathlib.Omega.{arith}
 use borrow.Author.Tests.{eqb-true, eqb-false, ltb-true, ltb-false}
 use lib.Dec.{T, eqb, ltb}
 use lib.Pow.{pow_pos, pow_mono}
+use Rattle.std.specs.Prelude.{Ok, Err}
 use Rattle.bits.specs.Tests.{pick}
 use Rattle.bits.specs.Numbers.{field_of}
 use Rattle.layout.specs.Layout.{Field, pattern, spare, number, code, flag, signed, width_of, Value, Values, write_as}
-use Rattle.layout.specs.Trouble.{none_of, or_else, agreeing, differing, trouble_in, misfit_in, trouble, misfit}
-use Rattle.layout.specs.Rules.{widths_of, total}
+use Rattle.layout.specs.Trouble.{Checked, nothing, wrong, none_of, or_else, agreeing, differing, trouble_in, misfit_in, trouble, misfit}
+use Rattle.layout.specs.Rules.{slots_of, total}
 use Rattle.layout.specs.Begins.{Differs, BeginsIn, Begins, MisfitsIn, Misfits, IsFirst}
 use Rattle.layout.specs.declared.Cause.{Cause}
 use Rattle.layout.specs.declared.Cause.TheVariants.{Pattern, Spare, Unused, TooWide}
-use Rattle.layout.specs.declared.Trouble.{Trouble}
-use Rattle.layout.specs.declared.Trouble.TheVariants.{Nothing, Wrong}
 use Rattle.bits.proofs.TestLaws.{by_lt, clash, zero_one}
 use Rattle.layout.proofs.LayoutLaws.{is_sound, are_sound, has_bit_lem, sayable, pattern_short, first_sound, rest_sound}
 use Rattle.layout.proofs.LowestLaws.{agreeing_lowest}
@@ -27,19 +26,19 @@ use Rattle.layout.proofs.LowestLaws.{agreeing_lowest}
 -- ---- first of two
 
 -- the troubles of P all begin at bit m or below, those of Q above it
-or_first : (P Q : Cause → ℕ → Type 0) (m : ℕ) (t u : Trouble) → IsFirst P t → IsFirst Q u
+or_first : (P Q : Cause → ℕ → Type 0) (m : ℕ) (t u : Checked) → IsFirst P t → IsFirst Q u
     → ((c : Cause) (b : ℕ) → P c b → b ≤ m) → ((c : Cause) (b : ℕ) → Q c b → m < b)
     → IsFirst (λ c b. P c b ⊎ Q c b) (or_else t u)
-or_first P Q m Nothing Nothing p q l h = λ c b. ⊎_elim (p c b) (q c b)
-or_first P Q m Nothing (Wrong c b) p q l h = (inr q.0, λ d e. ⊎_elim (λ x. absurd (p d e x)) (q.1 d e))
-or_first P Q m (Wrong c b) u p q l h = (inl p.0, λ d e. ⊎_elim (p.1 d e) (λ x. omega (arith, l c b p.0, h d e x)))
+or_first P Q m (Ok u) (Ok v) p q l h = λ c b. ⊎_elim (p c b) (q c b)
+or_first P Q m (Ok u) (Err t) p q l h = (inr q.0, λ d e. ⊎_elim (λ x. absurd (p d e x)) (q.1 d e))
+or_first P Q m (Err t) u p q l h = (inl p.0, λ d e. ⊎_elim (p.1 d e) (λ x. omega (arith, l t.cause t.bit p.0, h d e x)))
 
 -- ---- one field
 
 differing_first : (d : Cause) (at k n x : ℕ) → n < 2 ^ k → x < 2 ^ k → IsFirst (Differs d at n x) (differing d at k n x)
 differing_first d at k n x h g = go (eqb n x) refl
   where
-    go : (t : Bool) → eqb n x ≡ t → IsFirst (Differs d at n x) (pick t Nothing (Wrong d (at + agreeing k n x + 1)))
+    go : (t : Bool) → eqb n x ≡ t → IsFirst (Differs d at n x) (pick t nothing (wrong d (at + agreeing k n x + 1)))
     go true e = λ c b p. p.3 (ap (λ (m : ℕ). m / 2 ^ p.0 % 2) (eqb-true n x e))
     go false e =
         let l = agreeing_lowest k n x h g (eqb-false n x e) in (
@@ -47,7 +46,7 @@ differing_first d at k n x h g = go (eqb n x) refl
           λ c b p. by_lt p.0 (agreeing k n x) (λ h. absurd (p.3 (l.below p.0 h))) (λ g. omega (arith, p.2)),
         )
 
-code_first : (at : ℕ) (t : Bool) → IsFirst (λ c b. (c ≡ Unused) × (b ≡ at + 1) × (t ≡ false)) (pick t Nothing (Wrong Unused (at + 1)))
+code_first : (at : ℕ) (t : Bool) → IsFirst (λ c b. (c ≡ Unused) × (b ≡ at + 1) × (t ≡ false)) (pick t nothing (wrong Unused (at + 1)))
 code_first at true = λ c b p. clash refl p.2
 code_first at false = ((refl, refl, refl), λ c b p. omega (arith, p.1))
 
@@ -80,11 +79,11 @@ in_field at (signed k) n t h c b p = absurd p
 misfits_first : (at : ℕ) (f : Field) (n : ℕ) → T (is_sound f) → IsFirst (MisfitsIn at f n) (misfit_in at f n)
 misfits_first at f n s = go (ltb n (2 ^ width_of f)) refl
   where
-    slim : n < 2 ^ width_of f → (t : Trouble) → IsFirst (BeginsIn at f n) t → IsFirst (MisfitsIn at f n) t
-    slim h Nothing p = λ c b. ⊎_elim (λ q. absurd (omega (arith, q.2))) (λ q. p c b q.1)
-    slim h (Wrong c b) p = (inr (h, p.0), λ d e. ⊎_elim (λ q. absurd (omega (arith, q.2))) (λ q. p.1 d e q.1))
+    slim : n < 2 ^ width_of f → (t : Checked) → IsFirst (BeginsIn at f n) t → IsFirst (MisfitsIn at f n) t
+    slim h (Ok u) p = λ c b. ⊎_elim (λ q. absurd (omega (arith, q.2))) (λ q. p c b q.1)
+    slim h (Err t) p = (inr (h, p.0), λ d e. ⊎_elim (λ q. absurd (omega (arith, q.2))) (λ q. p.1 d e q.1))
 
-    go : (t : Bool) → ltb n (2 ^ width_of f) ≡ t → IsFirst (MisfitsIn at f n) (pick t (trouble_in at f n) (Wrong TooWide (at + 1)))
+    go : (t : Bool) → ltb n (2 ^ width_of f) ≡ t → IsFirst (MisfitsIn at f n) (pick t (trouble_in at f n) (wrong TooWide (at + 1)))
     go true e = let h : n < 2 ^ width_of f = ltb-true _ _ e in slim h (trouble_in at f n) (field_first at f n s h)
     go false e =
         let g : 2 ^ width_of f ≤ n = ltb-false _ _ e in (inl (refl, refl, g), λ c b. ⊎_elim (λ q. omega (arith, q.1)) (λ q. absurd (omega (arith, q.0))))
@@ -104,16 +103,16 @@ begins_above at (f ∷ fs) word t c b =
     (λ p. omega (arith, begins_above (at + width_of f) fs word (rest_sound f fs t) c b p))
 
 -- nor above it, in a word that has no more bits
-pub begins_below : (at : ℕ) (fs : List Field) (word : ℕ) → T (are_sound fs) → word < 2 ^ (at + total (widths_of fs))
-    → (c : Cause) (b : ℕ) → Begins at fs word c b → b ≤ at + total (widths_of fs)
+pub begins_below : (at : ℕ) (fs : List Field) (word : ℕ) → T (are_sound fs) → word < 2 ^ (at + total (slots_of fs))
+    → (c : Cause) (b : ℕ) → Begins at fs word c b → b ≤ at + total (slots_of fs)
 begins_below at [] word t h c b =
     let e : word / 2 ^ at ≡ 0 = div-eq_of_lt (lt_of_lt_of_le h (pow_mono (omega arith))) in
     λ p. absurd (p.2 e)
 begins_below at (f ∷ fs) word t h c b =
     ⊎_elim (λ p. omega (arith, (in_field at f (field_of word at (width_of f)) (first_sound f fs t) (mod-lt _ (pow_pos (width_of f))) c b p).1))
-    (λ p. omega (arith, begins_below (at + width_of f) fs word (rest_sound f fs t) (rw (← add_assoc at (width_of f) (total (widths_of fs))) at h) c b p))
+    (λ p. omega (arith, begins_below (at + width_of f) fs word (rest_sound f fs t) (rw (← add_assoc at (width_of f) (total (slots_of fs))) at h) c b p))
 
-above_first : (at n : ℕ) (t : Bool) → eqb n 0 ≡ t → IsFirst (λ c b. (c ≡ Spare) × (b ≡ at + 1) × (n ≡ 0 → ⊥)) (pick t Nothing (Wrong Spare (at + 1)))
+above_first : (at n : ℕ) (t : Bool) → eqb n 0 ≡ t → IsFirst (λ c b. (c ≡ Spare) × (b ≡ at + 1) × (n ≡ 0 → ⊥)) (pick t nothing (wrong Spare (at + 1)))
 above_first at n true e = λ c b p. p.2 (eqb-true n 0 e)
 above_first at n false e = ((refl, refl, eqb-false n 0 e), λ c b p. omega (arith, p.1))
 
@@ -128,7 +127,7 @@ trouble_first at (f ∷ fs) word t =
     (begins_above (at + width_of f) fs word (rest_sound f fs t))
 
 pub misfits_in : (at : ℕ) (fs : List Field) (vs : Values fs) → T (are_sound fs) → (c : Cause) (b : ℕ) → Misfits at fs vs c b
-    → (at < b) × (b ≤ at + total (widths_of fs))
+    → (at < b) × (b ≤ at + total (slots_of fs))
 misfits_in at [] vs t c b = λ p. absurd p
 misfits_in at (f ∷ fs) vs t c b =
     ⊎_elim (λ p. let q = in_place at f (write_as f vs.0) (first_sound f fs t) c b p in (q.0, omega (arith, q.1)))
@@ -215,10 +214,10 @@ misfits_cause at (f ∷ fs) vs t =
     (λ c b p. (misfits_in (at + width_of f) fs vs.1 (rest_sound f fs t) c b p).0)
 
 -- two answers that tell the first trouble are equal
-pub first_one : (P : Cause → ℕ → Type 0) (t u : Trouble) → OneCause P → IsFirst P t → IsFirst P u → t ≡ u
-first_one P Nothing Nothing o p q = refl
-first_one P Nothing (Wrong c b) o p q = absurd (p c b q.0)
-first_one P (Wrong c b) Nothing o p q = absurd (q c b p.0)
-first_one P (Wrong c b) (Wrong d e) o p q =
-    let s : b ≡ e = omega (arith, p.1 d e q.0, q.1 c b p.0) in
-    ap₂ Wrong (o c d b p.0 (subst (λ (n : ℕ). P d n) (sym s) q.0)) s
+pub first_one : (P : Cause → ℕ → Type 0) (t u : Checked) → OneCause P → IsFirst P t → IsFirst P u → t ≡ u
+first_one P (Ok u) (Ok v) o p q = refl
+first_one P (Ok u) (Err t) o p q = absurd (p t.cause t.bit q.0)
+first_one P (Err t) (Ok u) o p q = absurd (q t.cause t.bit p.0)
+first_one P (Err t) (Err s) o p q =
+    let same : t.bit ≡ s.bit = omega (arith, p.1 s.cause s.bit q.0, q.1 t.cause t.bit p.0) in
+    ap₂ wrong (o t.cause s.cause t.bit p.0 (subst (λ (n : ℕ). P s.cause n) (sym same) q.0)) same

@@ -1,12 +1,10 @@
 -- Where troubles begin (02, item 4), said of every bit and without going up the layout; and what it means that the lowest bit wins.
-use Rattle.std.specs.Prelude.{false, List, [], ◌∷◌, ◌⊎◌, ◌≡◌, ℕ, ◌+◌, ◌/◌, ◌%◌, ◌^◌, ◌≤◌, ◌<◌}
+use Rattle.std.specs.Prelude.{false, List, [], ◌∷◌, ◌⊎◌, ◌≡◌, ℕ, ◌+◌, ◌/◌, ◌%◌, ◌^◌, ◌≤◌, ◌<◌, Ok, Err}
 use Rattle.bits.specs.Numbers.{field_of}
 use Rattle.layout.specs.Layout.{Field, pattern, spare, number, code, flag, signed, width_of, Values, write_as}
-use Rattle.layout.specs.Trouble.{none_of}
+use Rattle.layout.specs.Trouble.{Checked, none_of}
 use Rattle.layout.specs.declared.Cause.{Cause}
 use Rattle.layout.specs.declared.Cause.TheVariants.{Pattern, Spare, Unused, TooWide}
-use Rattle.layout.specs.declared.Trouble.{Trouble}
-use Rattle.layout.specs.declared.Trouble.TheVariants.{Nothing, Wrong}
 
 -- n stands from weight 2 ^ at on where x should, and bit b is wrong
 abbrev pub Differs : Cause → ℕ → ℕ → ℕ → Cause → ℕ → Type 0
@@ -36,6 +34,6 @@ Misfits at [] vs c b = ⊥
 Misfits at (f ∷ fs) vs c b = MisfitsIn at f (write_as f vs.0) c b ⊎ Misfits (at + width_of f) fs vs.1 c b
 
 -- the first of the troubles P is told: nothing if there is none; else one of them, and no other begins at a lower bit
-abbrev pub IsFirst : (Cause → ℕ → Type 0) → Trouble → Type 0
-IsFirst P Nothing = (c : Cause) (b : ℕ) → P c b → ⊥
-IsFirst P (Wrong c b) = P c b × ((d : Cause) (e : ℕ) → P d e → b ≤ e)
+abbrev pub IsFirst : (Cause → ℕ → Type 0) → Checked → Type 0
+IsFirst P (Ok u) = (c : Cause) (b : ℕ) → P c b → ⊥
+IsFirst P (Err t) = P t.cause t.bit × ((d : Cause) (e : ℕ) → P d e → t.bit ≤ e)

@@ -18,7 +18,7 @@ use Rattle.bits.specs.Numbers.{bit, sum_of}
 use Rattle.bits.specs.Octets.{AreOctets, bit_at}
 use Rattle.layout.specs.Begins.{Begins, Misfits, IsFirst}
 use Rattle.layout.specs.declared.Cause.{Cause}
-use Rattle.layout.specs.declared.Trouble.TheVariants.{Nothing}
+use Rattle.layout.specs.Trouble.{nothing}
 use Rattle.refusal.specs.Refusals.{numbered}
 use Rattle.refusal.specs.declared.Refusal.{Refusal}
 use Rattle.frame.specs.Frame.{good_frame, frame_at}
@@ -110,8 +110,8 @@ pub opens_exactly : {image : List ℕ} {o : Opened} → Opens image o
     × (is_labelled (first_word image) ≡ true)
     × (is_labelled (second_word image) ≡ true)
     × (pair_of (word_kind (first_word image)) (word_kind (second_word image)) ≡ true)
-    × (word_trouble (first_word image) ≡ Nothing)
-    × (word_trouble (second_word image) ≡ Nothing))
+    × (word_trouble (first_word image) ≡ nothing)
+    × (word_trouble (second_word image) ≡ nothing))
 opens_exactly {image} x = (
   λ p.
       let o = (pairs.opens_exactly image).0 (pairs.opened_as p.0 p.1 image (sym (opened x) ∙ p.2)) in
@@ -126,22 +126,22 @@ opens_exactly {image} x = (
 
 -- nothing is wrong inside a word, or a message, exactly if no trouble begins in any of its fields (`Begins`, `Misfits`: of a word, and of
 -- the values of a message; crates/bits/specs/Begins.antt)
-pub word_fine : (word : ℕ) → (word_trouble word ≡ Nothing) ↔ ((c : Cause) (b : ℕ) → Begins 6 (layout_of (word_kind word)) word c b → ⊥)
+pub word_fine : (word : ℕ) → (word_trouble word ≡ nothing) ↔ ((c : Cause) (b : ℕ) → Begins 6 (layout_of (word_kind word)) word c b → ⊥)
 word_fine word = (
   λ e. subst (IsFirst (Begins 6 (layout_of (word_kind word)) word)) e (inside.content_first (word_kind word) word),
-  λ none. sym (inside.content_only (word_kind word) word Nothing none),
+  λ none. sym (inside.content_only (word_kind word) word nothing none),
 )
 
-pub message_fine : (m : Message) → (message_trouble m ≡ Nothing) ↔ ((c : Cause) (b : ℕ) → Misfits 6 (layout_of (kind_of m)) (parts_of m) c b → ⊥)
+pub message_fine : (m : Message) → (message_trouble m ≡ nothing) ↔ ((c : Cause) (b : ℕ) → Misfits 6 (layout_of (kind_of m)) (parts_of m) c b → ⊥)
 message_fine m = (
   λ e. subst (IsFirst (Misfits 6 (layout_of (kind_of m)) (parts_of m))) e (inside.message_first m),
-  λ none. sym (inside.message_only m Nothing none),
+  λ none. sym (inside.message_only m nothing none),
 )
 
 -- a pair closes exactly if the buffer has sixteen octets, the pair is in the table and every value fits: a legal pair
 pub closes_exactly : {first second : Message} {buffer after : List ℕ} {r : Refusal} → Closes first second buffer r after
     → (r ≡ numbered 0)
-    ↔ ((length buffer ≡ 16) × (pair_of (kind_of first) (kind_of second) ≡ true) × (message_trouble first ≡ Nothing) × (message_trouble second ≡ Nothing))
+    ↔ ((length buffer ≡ 16) × (pair_of (kind_of first) (kind_of second) ≡ true) × (message_trouble first ≡ nothing) × (message_trouble second ≡ nothing))
 unfolding close_refusal
 closes_exactly {first} {second} {buffer} c = (
   λ e. let p = (success_exactly (close_checks first second buffer) refl).0 (sym (closed c).0 ∙ e) in (eqb-true _ _ p.0, p.1.0, p.1.1.0, p.1.1.1.0),

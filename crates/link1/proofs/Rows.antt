@@ -13,10 +13,9 @@ use Rattle.bits.specs.Tests.{both}
 use Rattle.bits.specs.Numbers.{num_of, sum_of, tab}
 use Rattle.bits.specs.Octets.{AreOctets, octets_of}
 use Rattle.layout.specs.Begins.{Begins, IsFirst}
-use Rattle.layout.specs.Trouble.{agreeing}
+use Rattle.layout.specs.Trouble.{nothing, wrong, agreeing}
 use Rattle.layout.specs.declared.Cause.{Cause}
 use Rattle.layout.specs.declared.Cause.TheVariants.{Spare, Unused}
-use Rattle.layout.specs.declared.Trouble.TheVariants.{Nothing, Wrong}
 use Rattle.refusal.specs.Refusals.{numbered_in, troubled}
 use Rattle.refusal.specs.Checks.{check, check_at, inside}
 use Rattle.refusal.specs.Table.{of_table, ◌at◌, ◌to◌at◌, in_order, among}
@@ -112,13 +111,13 @@ table_lacks = refl
 
 -- as it stands; two exchanged, one left out, one too many, another place, other numbers inside, another message
 pub orders_are :
-    in_order 12 14 (check true 2 ∷ check_at true 6 1 ∷ inside 2 Nothing ∷ []) (2 at 0 ∷ 6 at 1 ∷ 12 to 14 at 2 ∷ [])
-    ∷ in_order 12 14 (check_at true 6 1 ∷ check true 2 ∷ inside 2 Nothing ∷ []) (2 at 0 ∷ 6 at 1 ∷ 12 to 14 at 2 ∷ [])
-    ∷ in_order 12 14 (check true 2 ∷ inside 2 Nothing ∷ []) (2 at 0 ∷ 6 at 1 ∷ 12 to 14 at 2 ∷ [])
-    ∷ in_order 12 14 (check true 2 ∷ check_at true 6 1 ∷ inside 2 Nothing ∷ []) (2 at 0 ∷ 6 at 1 ∷ [])
-    ∷ in_order 12 14 (check true 2 ∷ check_at true 6 2 ∷ inside 2 Nothing ∷ []) (2 at 0 ∷ 6 at 1 ∷ 12 to 14 at 2 ∷ [])
-    ∷ in_order 14 15 (check true 2 ∷ check_at true 6 1 ∷ inside 2 Nothing ∷ []) (2 at 0 ∷ 6 at 1 ∷ 12 to 14 at 2 ∷ [])
-    ∷ in_order 12 14 (check true 2 ∷ check_at true 6 1 ∷ inside 1 Nothing ∷ []) (2 at 0 ∷ 6 at 1 ∷ 12 to 14 at 2 ∷ [])
+    in_order 12 14 (check true 2 ∷ check_at true 6 1 ∷ inside 2 nothing ∷ []) (2 at 0 ∷ 6 at 1 ∷ 12 to 14 at 2 ∷ [])
+    ∷ in_order 12 14 (check_at true 6 1 ∷ check true 2 ∷ inside 2 nothing ∷ []) (2 at 0 ∷ 6 at 1 ∷ 12 to 14 at 2 ∷ [])
+    ∷ in_order 12 14 (check true 2 ∷ inside 2 nothing ∷ []) (2 at 0 ∷ 6 at 1 ∷ 12 to 14 at 2 ∷ [])
+    ∷ in_order 12 14 (check true 2 ∷ check_at true 6 1 ∷ inside 2 nothing ∷ []) (2 at 0 ∷ 6 at 1 ∷ [])
+    ∷ in_order 12 14 (check true 2 ∷ check_at true 6 2 ∷ inside 2 nothing ∷ []) (2 at 0 ∷ 6 at 1 ∷ 12 to 14 at 2 ∷ [])
+    ∷ in_order 14 15 (check true 2 ∷ check_at true 6 1 ∷ inside 2 nothing ∷ []) (2 at 0 ∷ 6 at 1 ∷ 12 to 14 at 2 ∷ [])
+    ∷ in_order 12 14 (check true 2 ∷ check_at true 6 1 ∷ inside 1 nothing ∷ []) (2 at 0 ∷ 6 at 1 ∷ 12 to 14 at 2 ∷ [])
     ∷ []
     ≡ true ∷ replicate 6 false
 orders_are = refl
@@ -288,14 +287,14 @@ none_begins c =
     (⊎_elim (λ p. omega (arith, p.2)) (⊎_elim (λ p. p) (⊎_elim (λ p. omega (arith, p.2)) (⊎_elim (λ p. p) (λ p. omega (arith, p.1)))))))))))))
 
 -- the spare bit is told, and not the code, nor nothing
-pub spare_first : IsFirst BeginsHere (Wrong Spare 8)
+pub spare_first : IsFirst BeginsHere (wrong Spare 8)
 unfolding agreeing
 spare_first = content_first k.S3 troubled_word
 
-pub code_not_first : IsFirst BeginsHere (Wrong Unused 21) → ⊥
+pub code_not_first : IsFirst BeginsHere (wrong Unused 21) → ⊥
 code_not_first f = omega (arith, f.1 Spare 8 spare_begins)
 
-pub something_first : IsFirst BeginsHere Nothing → ⊥
+pub something_first : IsFirst BeginsHere nothing → ⊥
 something_first f = f Spare 8 spare_begins
 
 -- ---- digits left in absent modes (02, item 2)

@@ -3,7 +3,7 @@ use mathlib.Core.Path.{◌≡◌}
 use mathlib.Core.List.{List, ◌∷◌}
 use Prim.Native.Nat.{ℕ}
 use Rattle.layout.specs.declared.Cause.{Cause}
-use Rattle.layout.specs.declared.Trouble.TheVariants.{Nothing, Wrong}
+use Rattle.layout.specs.Trouble.{nothing, wrong}
 use Rattle.refusal.specs.Refusals.{inside_at}
 use Rattle.refusal.specs.Checks.{Check, inside, first_refusal}
 use Rattle.refusal.specs.declared.Refusal.{Refusal}
@@ -16,15 +16,15 @@ use Rattle.bits.proofs.TestLaws.{zero_one}
 use Rattle.refusal.proofs.CheckLaws.{Refuses, inside_wrong, inside_value, inside_refused}
 
 module _ (place : ℕ) (k : Kind) (w : ℕ) where
-  pub content_right : content_trouble k w ≡ Nothing → content_of place k w ≡ C.Good (message_in k w)
+  pub content_right : content_trouble k w ≡ nothing → content_of place k w ≡ C.Good (message_in k w)
   unfolding content_of
   content_right e = rw e
 
-  pub content_wrong : (c : Cause) (b : ℕ) → content_trouble k w ≡ Wrong c b → content_of place k w ≡ C.Refused (inside_at place c b)
+  pub content_wrong : (c : Cause) (b : ℕ) → content_trouble k w ≡ wrong c b → content_of place k w ≡ C.Refused (inside_at place c b)
   unfolding content_of
   content_wrong c b e = rw e (inside_wrong C.Refused (C.Good (message_in k w)) place c b)
 
-  pub content_good : (m : Message) → content_of place k w ≡ C.Good m → (content_trouble k w ≡ Nothing) × (message_in k w ≡ m)
+  pub content_good : (m : Message) → content_of place k w ≡ C.Good m → (content_trouble k w ≡ nothing) × (message_in k w ≡ m)
   unfolding content_of
   content_good m e =
       let p = inside_value C.Refused (C.Good (message_in k w)) place (content_trouble k w) (C.Good m) (λ r z. zero_one (cc)) e in
@@ -36,15 +36,15 @@ module _ (place : ℕ) (k : Kind) (w : ℕ) where
   content_refused r e = inside_refused C.Refused (C.Good (message_in k w)) place (content_trouble k w) r (λ z. zero_one (cc)) (λ x z. cc) e
 
 module _ (place : ℕ) (m : Message) where
-  pub word_right : message_trouble m ≡ Nothing → encoded_of place m ≡ E.Word (message_word m)
+  pub word_right : message_trouble m ≡ nothing → encoded_of place m ≡ E.Word (message_word m)
   unfolding encoded_of
   word_right e = rw e
 
-  pub word_wrong : (c : Cause) (b : ℕ) → message_trouble m ≡ Wrong c b → encoded_of place m ≡ E.Refused (inside_at place c b)
+  pub word_wrong : (c : Cause) (b : ℕ) → message_trouble m ≡ wrong c b → encoded_of place m ≡ E.Refused (inside_at place c b)
   unfolding encoded_of
   word_wrong c b e = rw e (inside_wrong E.Refused (E.Word (message_word m)) place c b)
 
-  pub word_good : (w : ℕ) → encoded_of place m ≡ E.Word w → (message_trouble m ≡ Nothing) × (message_word m ≡ w)
+  pub word_good : (w : ℕ) → encoded_of place m ≡ E.Word w → (message_trouble m ≡ nothing) × (message_word m ≡ w)
   unfolding encoded_of
   word_good w e =
       let p = inside_value E.Refused (E.Word (message_word m)) place (message_trouble m) (E.Word w) (λ r z. zero_one (cc)) e in

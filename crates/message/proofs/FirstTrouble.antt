@@ -4,11 +4,11 @@
 use mathlib.Core.Path.{◌≡◌, sym, subst}
 use Prim.Native.Nat.{ℕ, ◌+◌, ◌^◌, ◌<◌}
 use native.Mathlib.Omega.{arith}
+use Rattle.std.specs.Prelude.{Ok, Err}
 use Rattle.layout.specs.Begins.{Begins, Misfits, IsFirst}
-use Rattle.layout.specs.Rules.{widths_of, total}
+use Rattle.layout.specs.Rules.{slots_of, total}
 use Rattle.layout.specs.declared.Cause.{Cause}
-use Rattle.layout.specs.declared.Trouble.{Trouble}
-use Rattle.layout.specs.declared.Trouble.TheVariants.{Nothing, Wrong}
+use Rattle.layout.specs.Trouble.{Checked, nothing, wrong}
 use Rattle.kind.specs.Layouts.{layout_of}
 use Rattle.kind.specs.declared.Kind.{Kind}
 use Rattle.message.specs.Messages.{kind_of, parts_of}
@@ -29,19 +29,19 @@ module _ (k : Kind) (word : ℕ) where
   content_first = trouble_first 6 (layout_of k) word (sound k)
 
   -- and no other is first
-  pub content_only : (t : Trouble) → IsFirst BeginsAt t → t ≡ content_trouble k word
+  pub content_only : (t : Checked) → IsFirst BeginsAt t → t ≡ content_trouble k word
   content_only t f = first_one BeginsAt t (content_trouble k word) (begins_cause 6 (layout_of k) word (sound k)) f content_first
 
   pub content_bit : word < 2 ^ 49 → InMessage (content_trouble k word)
   content_bit short = go (content_trouble k word) content_first
     where
-      there : word < 2 ^ (6 + total (widths_of (layout_of k)))
+      there : word < 2 ^ (6 + total (slots_of (layout_of k)))
       there = subst (λ (n : ℕ). word < 2 ^ (6 + n)) (sym (wide k)) short
 
-      go : (t : Trouble) → IsFirst BeginsAt t → InMessage t
-      go Nothing f = tt
-      go (Wrong c b) f =
-          (begins_above 6 (layout_of k) word (sound k) c b f.0, omega (arith, begins_below 6 (layout_of k) word (sound k) there c b f.0, wide k))
+      go : (t : Checked) → IsFirst BeginsAt t → InMessage t
+      go (Ok u) f = tt
+      go (Err t) f =
+          (begins_above 6 (layout_of k) word (sound k) t.cause t.bit f.0, omega (arith, begins_below 6 (layout_of k) word (sound k) there t.cause t.bit f.0, wide k))
 
 -- ---- the values of a message
 
@@ -54,15 +54,15 @@ module _ (msg : Message) where
   unfolding message_trouble
   message_first = misfit_first 6 (layout_of (kind_of msg)) (parts_of msg) (sound (kind_of msg))
 
-  pub message_only : (t : Trouble) → IsFirst MisfitsAt t → t ≡ message_trouble msg
+  pub message_only : (t : Checked) → IsFirst MisfitsAt t → t ≡ message_trouble msg
   message_only t f =
       first_one MisfitsAt t (message_trouble msg) (misfits_cause 6 (layout_of (kind_of msg)) (parts_of msg) (sound (kind_of msg))) f message_first
 
   pub message_bit : InMessage (message_trouble msg)
   message_bit = go (message_trouble msg) message_first
     where
-      go : (t : Trouble) → IsFirst MisfitsAt t → InMessage t
-      go Nothing f = tt
-      go (Wrong c b) f =
-          let p = misfits_in 6 (layout_of (kind_of msg)) (parts_of msg) (sound (kind_of msg)) c b f.0 in
+      go : (t : Checked) → IsFirst MisfitsAt t → InMessage t
+      go (Ok u) f = tt
+      go (Err t) f =
+          let p = misfits_in 6 (layout_of (kind_of msg)) (parts_of msg) (sound (kind_of msg)) t.cause t.bit f.0 in
           (p.0, omega (arith, p.1, wide (kind_of msg)))

@@ -13,9 +13,8 @@ use lib.Pow.{split as split-pow}
 use Rattle.bits.specs.Tests.{both}
 use Rattle.bits.specs.Numbers.{num_of, field_of}
 use Rattle.layout.specs.Layout.{Field, pattern, width_of, Values, split, join}
-use Rattle.layout.specs.Trouble.{is_nothing, misfit, allowed, fits}
-use Rattle.layout.specs.Rules.{widths_of, total}
-use Rattle.layout.specs.declared.Trouble.TheVariants.{Nothing}
+use Rattle.layout.specs.Trouble.{nothing, is_nothing, misfit, allowed, fits}
+use Rattle.layout.specs.Rules.{slots_of, total}
 use Rattle.kind.specs.Layouts.{label_of, layout_of, whole_of, all_kinds, iff_layout}
 use Rattle.message.specs.Messages.{mode_of, presence_of, code_of, iff_from, iff_parts, made_of, kind_of, parts_of}
 use Rattle.kind.specs.Labels.{kind_from, labelled_of, kind_named}
@@ -68,10 +67,10 @@ made_parts (m.S9 c) = refl
 
 -- nothing is wrong with the values of a message, and w is its word; the same of the values of a kind
 abbrev pub Writes : Message → ℕ → Type 0
-Writes msg w = (message_trouble msg ≡ Nothing) × (message_word msg ≡ w)
+Writes msg w = (message_trouble msg ≡ nothing) × (message_word msg ≡ w)
 
 abbrev WritesAs : (k : Kind) → Values (layout_of k) → ℕ → Type 0
-WritesAs k vs w = (misfit 6 (layout_of k) vs ≡ Nothing) × (join 0 (whole_of k) (tt, vs) ≡ w)
+WritesAs k vs w = (misfit 6 (layout_of k) vs ≡ nothing) × (join 0 (whole_of k) (tt, vs) ≡ w)
 
 -- of any kind but S.3 the values that are written are those that were read
 writes_made : (k : Kind) (vs : Values (layout_of k)) (w : ℕ) → eqb (label_of k) (label_of S3) ≡ false → WritesAs k vs w → Writes (made_of k vs) w
@@ -106,12 +105,12 @@ kind_made S9 vs = refl
 -- ---- labels
 
 -- a word of a kind is as the whole layout has it if the label is the kind's and nothing is wrong above it
-whole : (k : Kind) (w : ℕ) → labelled_of w ≡ Known k → content_trouble k w ≡ Nothing → T (allowed 0 (whole_of k) w)
+whole : (k : Kind) (w : ℕ) → labelled_of w ≡ Known k → content_trouble k w ≡ nothing → T (allowed 0 (whole_of k) w)
 whole k w l g =
     let label : w / 1 % 64 ≡ label_of k = ap (λ (n : ℕ). n % 64) (div-one w) ∙ label_from all_kinds (w % 64) k l in
     to_t (allowed_more 0 (pattern 6 (label_of k)) (layout_of k) w ∙ ap₂ both (eq-eqb (w / 1 % 64) (label_of k) label) (ap is_nothing g))
 
-above_label : (k : Kind) (w : ℕ) → T (allowed 0 (whole_of k) w) → content_trouble k w ≡ Nothing
+above_label : (k : Kind) (w : ℕ) → T (allowed 0 (whole_of k) w) → content_trouble k w ≡ nothing
 above_label k w g =
     let all : both (eqb (w / 1 % 64) (label_of k)) (allowed 6 (layout_of k) w) ≡ true =
     sym (allowed_more 0 (pattern 6 (label_of k)) (layout_of k) w) ∙ from_t (allowed 0 (whole_of k) w) g in
@@ -134,7 +133,7 @@ writes_split k w g =
 module _ (b : ℕ → ℕ) (bits : (i : ℕ) → b i < 2) where
   -- what the word of these bits holds as a message of a kind is written as their word with the codes of absent modes zeroed
   abbrev IsWritten : Kind → Type 0
-  IsWritten k = content_trouble k (word_from b) ≡ Nothing → Writes (message_in k (word_from b)) (word_from (zeroed_bit b))
+  IsWritten k = content_trouble k (word_from b) ≡ nothing → Writes (message_in k (word_from b)) (word_from (zeroed_bit b))
 
   other_written : is_iff b ≡ false → (k : Kind) → labelled_of (word_from b) ≡ Known k → IsWritten k
   other_written e k l g =
@@ -161,7 +160,7 @@ module _ (b : ℕ → ℕ) (bits : (i : ℕ) → b i < 2) where
           let s3 : S3 ≡ k = cc in
           subst IsWritten s3 (iff_written e)
 
-  pub read_written : (k : Kind) (msg : Message) → labelled_of (word_from b) ≡ Known k → content_trouble k (word_from b) ≡ Nothing → message_in k (word_from b) ≡ msg
+  pub read_written : (k : Kind) (msg : Message) → labelled_of (word_from b) ≡ Known k → content_trouble k (word_from b) ≡ nothing → message_in k (word_from b) ≡ msg
       → Writes msg (word_from (zeroed_bit b))
   read_written k msg l g is = subst (λ (n : Message). Writes n (word_from (zeroed_bit b))) is (written k l g)
 
@@ -203,20 +202,20 @@ kind_read k w = kind_made k (split 6 (layout_of k) w)
 -- ---- written, then read
 
 -- the bits of a layout are all that a word has
-allowed_lt : (at : ℕ) (fs : List Field) (w : ℕ) → T (allowed at fs w) → w < 2 ^ (at + total (widths_of fs))
+allowed_lt : (at : ℕ) (fs : List Field) (w : ℕ) → T (allowed at fs w) → w < 2 ^ (at + total (slots_of fs))
 allowed_lt at [] w t =
     let e : w / 2 ^ at * 2 ^ at ≡ 0 = ap (λ (n : ℕ). n * 2 ^ at) (eqb→eq _ 0 (subst T (allowed_none at w) t)) ∙ zero-mul (2 ^ at) in
     let h : w < 2 ^ at = omega (arith, split-pow w at, mod-lt w (pow_pos at)) in
     subst (λ (n : ℕ). w < 2 ^ n) (sym (add-zero at)) h
 allowed_lt at (f ∷ fs) w t =
     let rest : T (both (allows f (field_of w at (width_of f))) (allowed (at + width_of f) fs w)) = subst T (allowed_more at f fs w) t in
-    subst (λ (n : ℕ). w < 2 ^ n) (add_assoc at (width_of f) (total (widths_of fs)))
+    subst (λ (n : ℕ). w < 2 ^ n) (add_assoc at (width_of f) (total (slots_of fs)))
     (allowed_lt (at + width_of f) fs w (both_right (allows f (field_of w at (width_of f))) (allowed (at + width_of f) fs w) rest))
 
 -- what is known of the word of a message
 pub record Read (msg : Message) (w : ℕ) : Type 0 where
   pub label : labelled_of w ≡ Known (kind_of msg)
-  pub content : content_trouble (kind_of msg) w ≡ Nothing
+  pub content : content_trouble (kind_of msg) w ≡ nothing
   pub message : message_in (kind_of msg) w ≡ msg
   pub short : w < 2 ^ 49
 

@@ -10,9 +10,8 @@ use lib.Dec.{eqb, leb, lit<, lit≤}
 use Rattle.bits.specs.Tests.{pick, both, every}
 use Rattle.bits.specs.Numbers.{num_of, field_of}
 use Rattle.layout.specs.Layout.{split}
-use Rattle.layout.specs.Trouble.{or_else, none_of, differing, trouble}
+use Rattle.layout.specs.Trouble.{nothing, wrong, or_else, none_of, differing, trouble}
 use Rattle.layout.specs.declared.Cause.TheVariants.{Spare, Unused}
-use Rattle.layout.specs.declared.Trouble.TheVariants.{Nothing, Wrong}
 use Rattle.kind.specs.Layouts.{iff_layout}
 use Rattle.message.specs.Messages.{mode_of, presence_of, code_of, iff_from, iff_parts}
 use Rattle.message.specs.ZeroedMessage.{presence_bit, is_iff, is_absent, is_unread, zeroed_bit, NoDigits}
@@ -182,6 +181,6 @@ module _ (b : ℕ → ℕ) (bits : (i : ℕ) → b i < 2) where
       let high : zeroed / 2 ^ 49 ≡ came / 2 ^ 49 = above (zeroed_bit b) (zeroed_lt b bits) ∙ sym (above b bits) in
       λ i.
       or_else (differing Spare 6 2 (spare7 i) 0)
-      (or_else (pick (none_of (1 ∷ 3 ∷ 5 ∷ 6 ∷ 7 ∷ []) (request i)) Nothing (Wrong Unused 21))
+      (or_else (pick (none_of (1 ∷ 3 ∷ 5 ∷ 6 ∷ 7 ∷ []) (request i)) nothing (wrong Unused 21))
       (or_else (differing Spare 28 2 (spare29 i) 0)
-      (or_else (differing Spare 35 2 (spare36 i) 0) (pick (eqb (high i) 0) Nothing (Wrong Spare 50)))))
+      (or_else (differing Spare 35 2 (spare36 i) 0) (pick (eqb (high i) 0) nothing (wrong Spare 50)))))

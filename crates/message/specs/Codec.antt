@@ -1,9 +1,8 @@
 -- One word to one message and back (001, Annex C, Appendix 3; 01, 'Messages'; 02, item 4).
 use Rattle.std.specs.Prelude.{List, ℕ}
 use Rattle.layout.specs.Layout.{split, join}
-use Rattle.layout.specs.Trouble.{trouble, misfit}
+use Rattle.layout.specs.Trouble.{Checked, trouble, misfit}
 use Rattle.layout.specs.Rules.{raw_of}
-use Rattle.layout.specs.declared.Trouble.{Trouble}
 use Rattle.refusal.specs.Refusals.{troubled}
 use Rattle.refusal.specs.Checks.{answered}
 use Rattle.kind.specs.Layouts.{layout_of, whole_of}
@@ -19,7 +18,7 @@ use Rattle.message.specs.declared.Encoded.TheVariants as E
 -- ---- a word as a message of a kind
 
 -- what is first wrong with the word, above its label
-abbrev pub content_trouble : Kind → ℕ → Trouble
+abbrev pub content_trouble : Kind → ℕ → Checked
 content_trouble k word = trouble 6 (layout_of k) word
 
 -- the message
@@ -33,7 +32,7 @@ content_of place k word = answered C.Refused (troubled place (content_trouble k 
 -- ---- the word of a message
 
 -- what is first wrong with its values
-unfoldable pub message_trouble : Message → Trouble
+unfoldable pub message_trouble : Message → Checked
 message_trouble msg = misfit 6 (layout_of (kind_of msg)) (parts_of msg)
 
 -- the label, and its values above it

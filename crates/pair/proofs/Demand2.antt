@@ -9,10 +9,10 @@ use Prim.Native.Nat.{ℕ}
 use native.Mathlib.Omega.{arith}
 use borrow.Author.Tests.{eqb-true, eq-eqb}
 use lib.ListN.{length}
+use Rattle.std.specs.Prelude.{Ok, Err}
 use Rattle.bits.specs.Tests.{both}
 use Rattle.bits.specs.Octets.{AreOctets, bit_at}
-use Rattle.layout.specs.declared.Trouble.{Trouble}
-use Rattle.layout.specs.declared.Trouble.TheVariants.{Nothing, Wrong}
+use Rattle.layout.specs.Trouble.{Checked, nothing, wrong}
 use Rattle.refusal.specs.Refusals.{numbered, success, bad_pair}
 use Rattle.refusal.specs.Checks.{check, inside, first_refusal}
 use Rattle.refusal.specs.declared.Refusal.{Refusal}
@@ -71,7 +71,7 @@ module _ (first second : Message) where
 
     -- the message that is read from word k is written as that word, zeroed
     word_written : (k : ℕ) (m : Message)
-        → word_message (word_of (bit_at image) k) ≡ m → is_labelled (word_of (bit_at image) k) ≡ true → word_trouble (word_of (bit_at image) k) ≡ Nothing
+        → word_message (word_of (bit_at image) k) ≡ m → is_labelled (word_of (bit_at image) k) ≡ true → word_trouble (word_of (bit_at image) k) ≡ nothing
         → Writes m (zeroed_word image k)
     word_written k m is label none =
         let v = word_of (bit_at image) k in
@@ -104,8 +104,8 @@ module _ (first second : Message) where
   -- the pair is in the table, with legal content
   pub record Legal : Type 0 where
     pub paired : pair_of (kind_of first) (kind_of second) ≡ true
-    pub one : message_trouble first ≡ Nothing
-    pub two : message_trouble second ≡ Nothing
+    pub one : message_trouble first ≡ nothing
+    pub two : message_trouble second ≡ nothing
 
   pub legal_closes : Legal → (buffer : List ℕ) → length buffer ≡ 16 → close_refusal first second buffer ≡ numbered success
   legal_closes l buffer sixteen = close_good first second buffer sixteen l.paired l.one l.two
@@ -147,8 +147,8 @@ pub record Opening (image : List ℕ) : Type 0 where
   pub known_1 : is_labelled (first_word image) ≡ true
   pub known_2 : is_labelled (second_word image) ≡ true
   pub paired : pair_of (word_kind (first_word image)) (word_kind (second_word image)) ≡ true
-  pub fine_1 : word_trouble (first_word image) ≡ Nothing
-  pub fine_2 : word_trouble (second_word image) ≡ Nothing
+  pub fine_1 : word_trouble (first_word image) ≡ nothing
+  pub fine_2 : word_trouble (second_word image) ≡ nothing
 
 pub opens_exactly : (image : List ℕ) → (open_of image ≡ Pair (word_message (first_word image)) (word_message (second_word image))) ↔ Opening image
 unfolding open_of open_refusal
@@ -182,12 +182,12 @@ opened_as first second image e = e ∙ sym (answer first second image e).1
 
 -- ---- 7, exactly: the pair is not in the table, where the checks before it are passed
 
-module _ (t : Bool) (u v : Trouble) where
+module _ (t : Bool) (u v : Checked) where
   -- what is wrong inside a message has another number
-  not_seven : (u v : Trouble) → (first_refusal (inside 1 u ∷ inside 2 v ∷ [])).number ≡ bad_pair → ⊥
-  not_seven (Wrong c b) v e = omega (arith, cause_number_lem c)
-  not_seven Nothing (Wrong c b) e = omega (arith, cause_number_lem c)
-  not_seven Nothing Nothing e = omega arith
+  not_seven : (u v : Checked) → (first_refusal (inside 1 u ∷ inside 2 v ∷ [])).number ≡ bad_pair → ⊥
+  not_seven (Err t) v e = omega (arith, cause_number_lem t.cause)
+  not_seven (Ok u) (Err t) e = omega (arith, cause_number_lem t.cause)
+  not_seven (Ok u) (Ok u') e = omega arith
 
   seven : (first_refusal (check t bad_pair ∷ inside 1 u ∷ inside 2 v ∷ []) ≡ numbered bad_pair) ↔ (t ≡ false)
   seven = go t

@@ -5,12 +5,12 @@ use mathlib.Core.List.{List, [], ◌∷◌}
 use mathlib.Core.Logic.{◌⊎◌, inl, inr, ⊎_elim}
 use Prim.Native.Nat.{ℕ, ◌+◌, ◌^◌, ◌<◌}
 use lib.Dec.{lit≤}
+use Rattle.std.specs.Prelude.{Ok, Err}
 use Rattle.bits.specs.Octets.{bit_at}
 use Rattle.layout.specs.Begins.{IsFirst}
 use Rattle.layout.specs.declared.Cause.{Cause}
 use Rattle.layout.specs.declared.Cause.TheVariants.{Pattern, Spare, Unused, TooWide}
-use Rattle.layout.specs.declared.Trouble.{Trouble}
-use Rattle.layout.specs.declared.Trouble.TheVariants.{Nothing, Wrong}
+use Rattle.layout.specs.Trouble.{Checked, nothing, wrong}
 use Rattle.refusal.specs.Refusals.{inside_at}
 use Rattle.refusal.specs.Checks.{inside}
 use Rattle.words.specs.Words.{place_of, word_of}
@@ -28,11 +28,11 @@ use Rattle.refusal.proofs.CheckLaws.{InMessage, AllInMessage, Numbered, AllNumbe
 use Rattle.message.proofs.FirstTrouble.{BeginsAt, content_first, content_bit, MisfitsAt, message_first, message_bit}
 
 -- of two messages, whose troubles begin as P and as Q say, the first that has one is told, and its first trouble
-abbrev pub FirstOfTwo : (Cause → ℕ → Type 0) → (Cause → ℕ → Type 0) → ℕ → Trouble → Type 0
-FirstOfTwo P Q place t = ((place ≡ 1) × IsFirst P t) ⊎ (IsFirst P Nothing × (place ≡ 2) × IsFirst Q t)
+abbrev pub FirstOfTwo : (Cause → ℕ → Type 0) → (Cause → ℕ → Type 0) → ℕ → Checked → Type 0
+FirstOfTwo P Q place t = ((place ≡ 1) × IsFirst P t) ⊎ (IsFirst P nothing × (place ≡ 2) × IsFirst Q t)
 
-two_told : (P Q : Cause → ℕ → Type 0) (t u : Trouble) → IsFirst P t → IsFirst Q u → (place : ℕ) (c : Cause) (b : ℕ)
-    → Told place c b (inside 1 t ∷ inside 2 u ∷ []) → FirstOfTwo P Q place (Wrong c b)
+two_told : (P Q : Cause → ℕ → Type 0) (t u : Checked) → IsFirst P t → IsFirst Q u → (place : ℕ) (c : Cause) (b : ℕ)
+    → Told place c b (inside 1 t ∷ inside 2 u ∷ []) → FirstOfTwo P Q place (wrong c b)
 two_told P Q t u f g place c b =
     ⊎_elim (λ p. inl (sym p.0, subst (IsFirst P) p.1 f))
     (λ p. ⊎_elim (λ q. inr (subst (IsFirst P) p.0 f, sym q.0, subst (IsFirst Q) q.1 g)) (λ q. absurd q.1) p.1)
@@ -50,12 +50,12 @@ narrow word = begins_narrow 6 (layout_of (word_kind word)) word
 word_number : (word : ℕ) → Numbered 12 14 (word_trouble word)
 word_number word = go (word_trouble word) (content_first (word_kind word) word)
   where
-    go : (t : Trouble) → IsFirst (BeginsInside word) t → Numbered 12 14 t
-    go Nothing f = tt
-    go (Wrong Pattern b) f = (lit≤ tt, lit≤ tt)
-    go (Wrong Spare b) f = (lit≤ tt, lit≤ tt)
-    go (Wrong Unused b) f = (lit≤ tt, lit≤ tt)
-    go (Wrong TooWide b) f = absurd (narrow word b f.0)
+    go : (t : Checked) → IsFirst (BeginsInside word) t → Numbered 12 14 t
+    go (Ok u) f = tt
+    go (wrong Pattern b) f = (lit≤ tt, lit≤ tt)
+    go (wrong Spare b) f = (lit≤ tt, lit≤ tt)
+    go (wrong Unused b) f = (lit≤ tt, lit≤ tt)
+    go (wrong TooWide b) f = absurd (narrow word b f.0)
 
 module _ (image : List ℕ) where
   -- a word of an image has no more than its 49 bits
@@ -73,7 +73,7 @@ module _ (image : List ℕ) where
   open_numbers = (word_number (first_word image), (word_number (second_word image), tt))
 
   pub open_first : (place : ℕ) (c : Cause) (b : ℕ) → open_of image ≡ Refused (inside_at place c b)
-      → FirstOfTwo (BeginsInside (first_word image)) (BeginsInside (second_word image)) place (Wrong c b)
+      → FirstOfTwo (BeginsInside (first_word image)) (BeginsInside (second_word image)) place (wrong c b)
   unfolding open_of open_refusal
   open_first place c b e =
       let v = first_word image in
@@ -91,19 +91,19 @@ value m = misfits_value 6 (layout_of (kind_of m)) (parts_of m)
 message_number : (m : Message) → Numbered 14 15 (message_trouble m)
 message_number m = go (message_trouble m) (message_first m)
   where
-    by : (c : Cause) (b : ℕ) → (c ≡ Unused) ⊎ (c ≡ TooWide) → Numbered 14 15 (Wrong c b)
-    by c b = ⊎_elim (λ e. subst (λ (x : Cause). Numbered 14 15 (Wrong x b)) (sym e) (lit≤ tt, lit≤ tt)) (λ e. subst (λ (x : Cause). Numbered 14 15 (Wrong x b)) (sym e) (lit≤ tt, lit≤ tt))
+    by : (c : Cause) (b : ℕ) → (c ≡ Unused) ⊎ (c ≡ TooWide) → Numbered 14 15 (wrong c b)
+    by c b = ⊎_elim (λ e. subst (λ (x : Cause). Numbered 14 15 (wrong x b)) (sym e) (lit≤ tt, lit≤ tt)) (λ e. subst (λ (x : Cause). Numbered 14 15 (wrong x b)) (sym e) (lit≤ tt, lit≤ tt))
 
-    go : (t : Trouble) → IsFirst (MisfitsAt m) t → Numbered 14 15 t
-    go Nothing f = tt
-    go (Wrong c b) f = by c b (value m c b f.0)
+    go : (t : Checked) → IsFirst (MisfitsAt m) t → Numbered 14 15 t
+    go (Ok u) f = tt
+    go (Err t) f = by t.cause t.bit (value m t.cause t.bit f.0)
 
 module _ (first second : Message) (buffer : List ℕ) where
   pub close_bits : AllInMessage (close_checks first second buffer)
   close_bits = (message_bit first, (message_bit second, tt))
 
   pub close_first : (place : ℕ) (c : Cause) (b : ℕ) → close_refusal first second buffer ≡ inside_at place c b
-      → FirstOfTwo (MisfitsAt first) (MisfitsAt second) place (Wrong c b)
+      → FirstOfTwo (MisfitsAt first) (MisfitsAt second) place (wrong c b)
   unfolding close_refusal
   close_first place c b e =
       two_told (MisfitsAt first) (MisfitsAt second) (message_trouble first) (message_trouble second) (message_first first) (message_first second) place c b

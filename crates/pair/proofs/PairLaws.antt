@@ -5,8 +5,7 @@ use mathlib.Core.List.{List, [], ◌∷◌, ◌++◌}
 use Prim.Native.Nat.{ℕ}
 use borrow.Author.Tests.{ne_eqb}
 use lib.ListN.{length}
-use Rattle.layout.specs.declared.Trouble.{Trouble}
-use Rattle.layout.specs.declared.Trouble.TheVariants.{Nothing}
+use Rattle.layout.specs.Trouble.{Checked, nothing}
 use Rattle.refusal.specs.Refusals.{numbered, success, bad_length, unknown_label, bad_pair}
 use Rattle.refusal.specs.Checks.{Check, check, check_at, inside, first_refusal, answered}
 use Rattle.refusal.specs.declared.Refusal.{Refusal}
@@ -85,7 +84,7 @@ module _ (k l : Kind) (v w : ℕ) where
     second_refused r f =
         let one = content_good 1 k v m e in
         let p = content_refused 2 l w r f in
-        sym (answer_refused Refused _ (ap (λ (t : Trouble). first_refusal (inside 1 t ∷ inside 2 (content_trouble l w) ∷ [])) one.0 ∙ p.1 []) p.0)
+        sym (answer_refused Refused _ (ap (λ (t : Checked). first_refusal (inside 1 t ∷ inside 2 (content_trouble l w) ∷ [])) one.0 ∙ p.1 []) p.0)
 
     pub both_read : (n : Message) → content_of 2 l w ≡ C.Good n → Pair m n ≡ open_contents k l v w
     unfolding open_contents
@@ -108,11 +107,11 @@ module _ (first second : Message) (buffer : List ℕ) where
       unfolding close_refusal
       first_unwritten r e = let p = word_refused 1 first r e in (rw (size, paired) (p.1 (inside 2 (message_trouble second) ∷ [])), p.0)
 
-      pub second_unwritten : message_trouble first ≡ Nothing → (r : Refusal) → encoded_of 2 second ≡ E.Refused r → (close_refusal first second buffer ≡ r) × Refuses r
+      pub second_unwritten : message_trouble first ≡ nothing → (r : Refusal) → encoded_of 2 second ≡ E.Refused r → (close_refusal first second buffer ≡ r) × Refuses r
       unfolding close_refusal
       second_unwritten one r e = let p = word_refused 2 second r e in (rw (size, paired, one) (p.1 []), p.0)
 
-      pub close_good : message_trouble first ≡ Nothing → message_trouble second ≡ Nothing → close_refusal first second buffer ≡ numbered success
+      pub close_good : message_trouble first ≡ nothing → message_trouble second ≡ nothing → close_refusal first second buffer ≡ numbered success
       unfolding close_refusal
       close_good one two = rw (size, paired, one, two)
 

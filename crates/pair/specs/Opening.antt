@@ -1,7 +1,7 @@
 -- Opening an image (01, 'Orders of checks'; 02, item 4).
 use Rattle.std.specs.Prelude.{Bool, List, [], ◌∷◌, ℕ, eqb, length}
 use Rattle.bits.specs.Octets.{bit_at}
-use Rattle.layout.specs.declared.Trouble.{Trouble}
+use Rattle.layout.specs.Trouble.{Checked}
 use Rattle.refusal.specs.Refusals.{numbered, success, bad_length, bad_start, bad_mark, bad_check, unknown_label, bad_pair}
 use Rattle.refusal.specs.Checks.{Check, check, check_at, inside, first_refusal, answered}
 use Rattle.refusal.specs.declared.Refusal.{Refusal}
@@ -26,7 +26,7 @@ abbrev pub word_kind : ℕ → Kind
 word_kind word = kind_named (labelled_of word)
 
 -- what is first wrong with the content
-abbrev pub word_trouble : ℕ → Trouble
+abbrev pub word_trouble : ℕ → Checked
 word_trouble word = content_trouble (word_kind word) word
 
 -- the message

@@ -11,9 +11,7 @@ use Rattle.std.specs.Prelude.{Result, Ok, Err}
 use Rattle.bits.specs.Tests.{pick, both, is_between}
 use Rattle.layout.specs.declared.Cause.{Cause}
 use Rattle.layout.specs.declared.Cause.TheVariants.{Pattern, Spare, Unused, TooWide}
-use Rattle.layout.specs.declared.Trouble.{Trouble}
-use Rattle.layout.specs.declared.Trouble.TheVariants.{Nothing, Wrong}
-use Rattle.layout.specs.Trouble.{is_nothing}
+use Rattle.layout.specs.Trouble.{Checked, nothing, wrong, is_nothing}
 use Rattle.bits.proofs.TestLaws.{both_true, between, in_between, clash, zero_one}
 use Rattle.layout.proofs.LayoutLaws.{nothing_is}
 use Rattle.refusal.specs.Refusals.{success, no_frame, bad_pattern, spare_bit, unused_code, too_wide, numbered, cause_number, inside_at, troubled}
@@ -37,9 +35,9 @@ all_refuse [] = true
 all_refuse (c ∷ cs) = both (refuses c) (all_refuse cs)
 
 -- a trouble begins at one of the bits above the label, and so does every trouble of a list of checks
-abbrev pub InMessage : Trouble → Type 0
-InMessage Nothing = Unit {0}
-InMessage (Wrong cause bit) = (7 ≤ bit) × (bit ≤ 49)
+abbrev pub InMessage : Checked → Type 0
+InMessage (Ok u) = Unit {0}
+InMessage (Err t) = (7 ≤ t.bit) × (t.bit ≤ 49)
 
 abbrev pub AllInMessage : List Check → Type 0
 AllInMessage [] = Unit {0}
@@ -68,10 +66,10 @@ wrong_refuses place c b z = omega (arith, cause_number_lem c)
 -- a check that is not passed refuses
 not_success : (c : Check) → refuses c ≡ true → is_passed c ≡ false → Refuses (told_by c)
 not_success (test passed r) e f z = omega (arith, (plain_number r e).0)
-not_success (inside place Nothing) e f z = clash refl f
-not_success (inside place (Wrong c b)) e f z = wrong_refuses place c b z
+not_success (inside place (Ok u)) e f z = clash refl f
+not_success (inside place (Err t)) e f z = wrong_refuses place t.cause t.bit z
 
-inside_of_table : (place : ℕ) (c : Cause) (b : ℕ) → is_between 1 2 place ≡ true → InMessage (Wrong c b) → of_table (inside_at place c b) ≡ true
+inside_of_table : (place : ℕ) (c : Cause) (b : ℕ) → is_between 1 2 place ≡ true → InMessage (wrong c b) → of_table (inside_at place c b) ≡ true
 inside_of_table place c b e (low, high) = go c
   where
     row : both (is_between 1 2 place) (is_between 7 49 b) ≡ true
@@ -85,8 +83,8 @@ inside_of_table place c b e (low, high) = go c
 
 told_of_table : (c : Check) → refuses c ≡ true → AllInMessage (c ∷ []) → is_passed c ≡ false → of_table (told_by c) ≡ true
 told_of_table (test passed r) e m f = (both_true {a = is_between 1 no_frame r.number} {b = of_table r} e).1
-told_of_table (inside place Nothing) e m f = absurd (clash refl f)
-told_of_table (inside place (Wrong c b)) e m f = inside_of_table place c b e m.0
+told_of_table (inside place (Ok u)) e m f = absurd (clash refl f)
+told_of_table (inside place (Err t)) e m f = inside_of_table place t.cause t.bit e m.0
 
 -- the first check, and those after it
 heads : (c : Check) (cs : List Check) → all_refuse (c ∷ cs) ≡ true → (refuses c ≡ true) × (all_refuse cs ≡ true)
@@ -107,9 +105,9 @@ first_of_table (c ∷ cs) e m = go (is_passed c) refl (first_of_table cs (heads 
 -- ---- what is told stands in the order of the checks
 
 -- what is wrong inside a message has one of the numbers lo to hi, and so has every trouble of a list of checks
-abbrev pub Numbered : ℕ → ℕ → Trouble → Type 0
-Numbered lo hi Nothing = Unit {0}
-Numbered lo hi (Wrong cause bit) = (lo ≤ cause_number cause) × (cause_number cause ≤ hi)
+abbrev pub Numbered : ℕ → ℕ → Checked → Type 0
+Numbered lo hi (Ok u) = Unit {0}
+Numbered lo hi (Err t) = (lo ≤ cause_number t.cause) × (cause_number t.cause ≤ hi)
 
 abbrev pub AllNumbered : ℕ → ℕ → List Check → Type 0
 AllNumbered lo hi [] = Unit {0}
@@ -128,14 +126,14 @@ module _ (lo hi : ℕ) where
       let low : r.number ≡ s.from = eqb-true _ _ p.0 in
       let high : r.number ≡ s.to = eqb-true _ _ q.0 in
       ap₂ both (between s.from s.to r.number (omega arith) (omega arith)) q.1
-  told_at (inside place Nothing) s e n f = absurd (clash refl f)
-  told_at (inside place (Wrong c b)) s e n f =
+  told_at (inside place (Ok u)) s e n f = absurd (clash refl f)
+  told_at (inside place (Err t)) s e n f =
       let p = both_true {a = eqb s.from lo} {b = both (eqb s.to hi) (eqb place s.place)} e in
       let q = both_true {a = eqb s.to hi} {b = eqb place s.place} p.1 in
       let low : s.from ≡ lo = eqb-true _ _ p.0 in
       let high : s.to ≡ hi = eqb-true _ _ q.0 in
       let w = n.0 in
-      ap₂ both (between s.from s.to (cause_number c) (omega (arith, w.0)) (omega (arith, w.1))) q.1
+      ap₂ both (between s.from s.to (cause_number t.cause) (omega (arith, w.0)) (omega (arith, w.1))) q.1
 
   pub told_among : (cs : List Check) (order : List Step) → in_order lo hi cs order ≡ true → AllNumbered lo hi cs → among order (first_refusal cs) ≡ true
   told_among [] [] e n = refl
@@ -159,7 +157,7 @@ module _ (lo hi : ℕ) where
 abbrev pub Told : ℕ → Cause → ℕ → List Check → Type 0
 Told place c b [] = ⊥
 Told place c b (test passed r ∷ cs) = (passed ≡ true) × Told place c b cs
-Told place c b (inside p t ∷ cs) = ((p ≡ place) × (t ≡ Wrong c b)) ⊎ ((t ≡ Nothing) × Told place c b cs)
+Told place c b (inside p t ∷ cs) = ((p ≡ place) × (t ≡ wrong c b)) ⊎ ((t ≡ nothing) × Told place c b cs)
 
 -- no two causes have one number
 abbrev cause_of : ℕ → Cause
@@ -179,15 +177,15 @@ first_told [] e place cause bit f = absurd (omega (arith, ap (λ (r : Refusal). 
 first_told (test true r ∷ cs) e place cause bit f = (refl, first_told cs (heads (test true r) cs e).1 place cause bit f)
 first_told (test false r ∷ cs) e place cause bit f =
     absurd (omega (arith, ap (λ (r : Refusal). r.number) f, cause_number_lem cause, (plain_number r (heads (test false r) cs e).0).1))
-first_told (inside p Nothing ∷ cs) e place cause bit f = inr (refl, first_told cs (heads (inside p Nothing) cs e).1 place cause bit f)
-first_told (inside p (Wrong c b) ∷ cs) e place cause bit f =
-    inl (ap (λ (r : Refusal). r.place) f, ap₂ Wrong (same_cause c cause (ap (λ (r : Refusal). r.number) f)) (ap (λ (r : Refusal). r.bit) f))
+first_told (inside p (Ok u) ∷ cs) e place cause bit f = inr (refl, first_told cs (heads (inside p nothing) cs e).1 place cause bit f)
+first_told (inside p (Err t) ∷ cs) e place cause bit f =
+    inl (ap (λ (r : Refusal). r.place) f, ap₂ wrong (same_cause t.cause cause (ap (λ (r : Refusal). r.number) f)) (ap (λ (r : Refusal). r.bit) f))
 
 -- ---- success is what comes if every check is passed
 
 abbrev pub Passes : Check → Type 0
 Passes (test passed r) = passed ≡ true
-Passes (inside place t) = t ≡ Nothing
+Passes (inside place t) = t ≡ nothing
 
 abbrev pub Passed : List Check → Type 0
 Passed [] = Unit {0}
@@ -295,20 +293,20 @@ module _ (cs ds : List Check) (all : all_refuse cs ≡ true) where
 
 -- an answer about the inside of message `place`: it is the value and nothing is wrong, or the refusal, which is passed up whole
 module _ {A : Type 0} (value : A) (place : ℕ) where
-  pub inside_wrong : (c : Cause) (b : ℕ) → answered (troubled place (Wrong c b)) value ≡ Err (inside_at place c b)
+  pub inside_wrong : (c : Cause) (b : ℕ) → answered (troubled place (wrong c b)) value ≡ Err (inside_at place c b)
   inside_wrong c b = answer_refused value refl (wrong_refuses place c b)
 
-  pub inside_value : (t : Trouble) (v : A) → answered (troubled place t) value ≡ Ok v → (t ≡ Nothing) × (value ≡ v)
-  inside_value Nothing v e = (refl, cc)
-  inside_value (Wrong c b) v e = let q : Err (inside_at place c b) ≡ Ok v = sym (inside_wrong c b) ∙ e in zero_one (cc)
+  pub inside_value : (t : Checked) (v : A) → answered (troubled place t) value ≡ Ok v → (t ≡ nothing) × (value ≡ v)
+  inside_value (Ok u) v e = (refl, cc)
+  inside_value (Err t) v e = let q : Err (inside_at place t.cause t.bit) ≡ Ok v = sym (inside_wrong t.cause t.bit) ∙ e in zero_one (cc)
 
-  pub inside_refused : (t : Trouble) (r : Refusal) → answered (troubled place t) value ≡ Err r
+  pub inside_refused : (t : Checked) (r : Refusal) → answered (troubled place t) value ≡ Err r
       → Refuses r × ((cs : List Check) → first_refusal (inside place t ∷ cs) ≡ r)
-  inside_refused Nothing r e = zero_one (cc)
-  inside_refused (Wrong c b) r e =
-      let q : Err (inside_at place c b) ≡ Err r = sym (inside_wrong c b) ∙ e in
-      let is : inside_at place c b ≡ r = cc in
-      (λ z. wrong_refuses place c b (ap (λ (x : Refusal). x.number) is ∙ z), λ cs. is)
+  inside_refused (Ok u) r e = zero_one (cc)
+  inside_refused (Err t) r e =
+      let q : Err (inside_at place t.cause t.bit) ≡ Err r = sym (inside_wrong t.cause t.bit) ∙ e in
+      let is : inside_at place t.cause t.bit ≡ r = cc in
+      (λ z. wrong_refuses place t.cause t.bit (ap (λ (x : Refusal). x.number) is ∙ z), λ cs. is)
 
 -- ---- demand 1, of any checks: the refusal is one of the table, and what it leaves
 

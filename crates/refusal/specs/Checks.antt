@@ -2,8 +2,7 @@
 -- item 4: of a message the first trouble is told.
 use Rattle.std.specs.Prelude.{Bool, List, [], ◌∷◌, ℕ, eqb, Result, Ok, Err}
 use Rattle.bits.specs.Tests.{pick}
-use Rattle.layout.specs.Trouble.{is_nothing}
-use Rattle.layout.specs.declared.Trouble.{Trouble}
+use Rattle.layout.specs.Trouble.{Checked, is_nothing}
 use Rattle.refusal.specs.Refusals.{success, numbered, numbered_at, troubled}
 use Rattle.refusal.specs.declared.Refusal.{Refusal}
 
@@ -11,7 +10,7 @@ pub data Check : Type 0 where
   -- whether a test is passed, and the refusal where it is not
   test : Bool → Refusal → Check
   -- what is first wrong inside message 1 or 2
-  inside : ℕ → Trouble → Check
+  inside : ℕ → Checked → Check
 
 -- a test of the whole input, and one of a message or an axis
 abbrev pub check : Bool → ℕ → Check

@@ -1,10 +1,9 @@
 -- 01, 'Numbers a caller may get back', and 02, items 4 and 6: a name for each number, 8 and 11 being no longer given; a number with its
 -- place, and of what is wrong inside a message with the bit where it begins.
-use Rattle.std.specs.Prelude.{ℕ}
+use Rattle.std.specs.Prelude.{ℕ, Ok, Err}
 use Rattle.layout.specs.declared.Cause.{Cause}
 use Rattle.layout.specs.declared.Cause.TheVariants.{Pattern, Spare, Unused, TooWide}
-use Rattle.layout.specs.declared.Trouble.{Trouble}
-use Rattle.layout.specs.declared.Trouble.TheVariants.{Nothing, Wrong}
+use Rattle.layout.specs.Trouble.{Checked, nothing, wrong}
 use Rattle.refusal.specs.declared.Refusal.{Refusal}
 
 -- success; a level that is neither 0 nor 1; a length; the start group; a mark or the final one; a check bit
@@ -75,6 +74,6 @@ abbrev pub inside_at : ℕ → Cause → ℕ → Refusal
 inside_at place cause bit = numbered_in (cause_number cause) place bit
 
 -- the same of a first trouble; success where nothing is wrong
-abbrev pub troubled : ℕ → Trouble → Refusal
-troubled place Nothing = numbered success
-troubled place (Wrong cause bit) = inside_at place cause bit
+abbrev pub troubled : ℕ → Checked → Refusal
+troubled place (Ok u) = numbered success
+troubled place (Err t) = inside_at place t.cause t.bit

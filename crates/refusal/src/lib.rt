@@ -7,7 +7,7 @@ ghost use Rattle.std.specs.Prelude.{◌≡◌};
 ghost use Rattle.refusal.specs.Refusals.{numbered, numbered_at, numbered_in, cause_number, inside_at};
 ghost use Rattle.refusal.specs.Checks as checks;
 
-use layout::Cause;
+use layout::{Cause, Trouble};
 
 pub const SUCCESS: u8 = 0;
 
@@ -82,10 +82,10 @@ fn number_of(cause: Cause) -> u8
 }
 
 // What is wrong inside message 1 or 2, by its cause.
-pub fn refuse(place: u8, cause: Cause, bit: u8) -> Refusal
-    ensures { result ≡ inside_at place cause bit }
+pub fn refuse(place: u8, trouble: Trouble) -> Refusal
+    ensures { result ≡ inside_at place trouble.cause trouble.bit }
 {
-    Refusal::inside(number_of(cause), place, bit)
+    Refusal::inside(number_of(trouble.cause), place, trouble.bit)
 }
 
 // An answer as a number, a place and a bit: a success is number, place and bit 0.

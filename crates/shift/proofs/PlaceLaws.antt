@@ -12,8 +12,7 @@ use borrow.Author.Tests.{ltb-true, lt-ltb}
 use Rattle.bits.specs.Tests.{pick, both}
 use Rattle.bits.specs.Twos.{unsigned_of}
 use Rattle.layout.specs.Layout.{Field, signed, Values, write_as}
-use Rattle.layout.specs.Trouble.{is_nothing, misfit, fits}
-use Rattle.layout.specs.declared.Trouble.TheVariants.{Nothing}
+use Rattle.layout.specs.Trouble.{nothing, is_nothing, misfit, fits}
 use Rattle.units.specs.Steps.{is_step}
 use Rattle.kind.specs.Layouts.{track_layout, corner_layout}
 use Rattle.message.specs.Codec.{message_trouble}
@@ -86,14 +85,14 @@ both_fit : (x y : ℤ) → is_step x ≡ true → is_step y ≡ true → fits ax
 both_fit x y p q = fits_both (signed 12) (signed 12 ∷ []) (x, (y, tt)) (in_field_lem x p) (fits_both (signed 12) [] (y, tt) (in_field_lem y q) refl)
 
 -- so for values with which nothing is wrong
-module _ (n : ℕ) (fs : List Field) (vs : Values fs) (none : misfit 6 fs vs ≡ Nothing) where
+module _ (n : ℕ) (fs : List Field) (vs : Values fs) (none : misfit 6 fs vs ≡ nothing) where
   all_fit : fits fs vs ≡ true
   all_fit = sym (fits_anywhere 6 fs vs) ∙ ap is_nothing none
 
   fit_after : fits (drop n fs) (after n fs vs) ≡ true
   fit_after = fits_after n fs vs all_fit
 
-  none_instead : (ws : Values (drop n fs)) → fits (drop n fs) ws ≡ true → misfit 6 fs (instead n fs vs ws) ≡ Nothing
+  none_instead : (ws : Values (drop n fs)) → fits (drop n fs) ws ≡ true → misfit 6 fs (instead n fs vs ws) ≡ nothing
   none_instead ws f = nothing_is _ (fits_anywhere 6 fs (instead n fs vs ws) ∙ fits_instead n fs vs ws all_fit f)
 
 -- ---- a message that is placed elsewhere
@@ -105,8 +104,8 @@ pub record Placing (m : Message) : Type 0 where
   pub own : placed_at m (x_of (position_of m)) (y_of (position_of m)) ≡ m
   -- if it has a position, it then has the new one, which fits; and the old one did
   pub there : is_somewhere (position_of m) ≡ true → (x y : ℤ) → position_of (placed_at m x y) ≡ At (record { 0 = x }) (record { 0 = y })
-  pub fit : is_somewhere (position_of m) ≡ true → message_trouble m ≡ Nothing → (x y : ℤ) → is_step x ≡ true → is_step y ≡ true → message_trouble (placed_at m x y) ≡ Nothing
-  pub range : is_somewhere (position_of m) ≡ true → message_trouble m ≡ Nothing → (is_step (x_of (position_of m)) ≡ true) × (is_step (y_of (position_of m)) ≡ true)
+  pub fit : is_somewhere (position_of m) ≡ true → message_trouble m ≡ nothing → (x y : ℤ) → is_step x ≡ true → is_step y ≡ true → message_trouble (placed_at m x y) ≡ nothing
+  pub range : is_somewhere (position_of m) ≡ true → message_trouble m ≡ nothing → (is_step (x_of (position_of m)) ≡ true) × (is_step (y_of (position_of m)) ≡ true)
 
 -- one that has none
 nowhere : (m : Message) → is_somewhere (position_of m) ≡ false → ((x y : ℤ) → placed_at m x y ≡ m) → Placing m
@@ -123,8 +122,8 @@ nowhere m h still =
 -- one that has one
 somewhere : (m : Message) → ((x y : ℤ) → kind_of (placed_at m x y) ≡ kind_of m) → ((x y u v : ℤ) → placed_at (placed_at m x y) u v ≡ placed_at m u v)
     → placed_at m (x_of (position_of m)) (y_of (position_of m)) ≡ m → ((x y : ℤ) → position_of (placed_at m x y) ≡ At (record { 0 = x }) (record { 0 = y }))
-    → (message_trouble m ≡ Nothing → (ws : Values axes) → fits axes ws ≡ true → message_trouble (placed_at m ws.0 ws.1.0) ≡ Nothing)
-    → (message_trouble m ≡ Nothing → fits axes (x_of (position_of m), (y_of (position_of m), tt)) ≡ true) → Placing m
+    → (message_trouble m ≡ nothing → (ws : Values axes) → fits axes ws ≡ true → message_trouble (placed_at m ws.0 ws.1.0) ≡ nothing)
+    → (message_trouble m ≡ nothing → fits axes (x_of (position_of m), (y_of (position_of m), tt)) ≡ true) → Placing m
 somewhere m kind again own there fit range =
     record {
       kind = kind;

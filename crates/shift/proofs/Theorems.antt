@@ -6,7 +6,7 @@ use mathlib.Core.List.{List, [], ◌∷◌}
 use mathlib.Core.Logic.{◌↔◌}
 use Prim.Native.Nat.{◌≤◌}
 use lib.IntN.{ℤ, pos, neg_ℤ, nat_abs, ◌+ℤ◌, ◌*ℤ◌}
-use Rattle.layout.specs.declared.Trouble.TheVariants.{Nothing}
+use Rattle.layout.specs.Trouble.{nothing}
 use Rattle.units.specs.Offsets.{sum_z}
 use Rattle.units.specs.Steps.{near, nearest_to, is_step}
 use Rattle.units.specs.Nearest.{Nearest, OddMultiple}
@@ -54,10 +54,10 @@ module _ (m : Message) (dx dy : ℤ) where
       go (At x y) e = let p = position_then x y e in moved x y e ∙ ap₂ (placed_at m) (sym (ap x_of p)) (sym (ap y_of p))
 
   -- and fits again, if it did and its results are in range
-  pub shifted_fits : message_trouble m ≡ Nothing → x_lands (position_of m) dx ≡ true → y_lands (position_of m) dy ≡ true → message_trouble (shifted m dx dy) ≡ Nothing
+  pub shifted_fits : message_trouble m ≡ nothing → x_lands (position_of m) dx ≡ true → y_lands (position_of m) dy ≡ true → message_trouble (shifted m dx dy) ≡ nothing
   shifted_fits none = go (position_of m) refl
     where
-      go : (p : Position) → position_of m ≡ p → x_lands p dx ≡ true → y_lands p dy ≡ true → message_trouble (shifted m dx dy) ≡ Nothing
+      go : (p : Position) → position_of m ≡ p → x_lands p dx ≡ true → y_lands p dy ≡ true → message_trouble (shifted m dx dy) ≡ nothing
       go Nowhere e a b = ap message_trouble (passes e) ∙ none
       go (At x y) e a b = ap message_trouble (moved x y e) ∙ (placing m).fit (ap is_somewhere e) none _ _ a b
 
@@ -125,7 +125,7 @@ shifted_empty m = go (position_of m) refl
         ∙ ap₂ (placed_at m) (not_moved x.0 ∙ sym (ap x_of e)) (not_moved y.0 ∙ sym (ap y_of e))
         ∙ (placing m).own
 
-pub empty_lands : (m : Message) → message_trouble m ≡ Nothing → (x_lands (position_of m) (sum_z []) ≡ true) × (y_lands (position_of m) (sum_z []) ≡ true)
+pub empty_lands : (m : Message) → message_trouble m ≡ nothing → (x_lands (position_of m) (sum_z []) ≡ true) × (y_lands (position_of m) (sum_z []) ≡ true)
 empty_lands m none = go (position_of m) refl
   where
     go : (p : Position) → position_of m ≡ p → (x_lands p (sum_z []) ≡ true) × (y_lands p (sum_z []) ≡ true)
@@ -178,7 +178,7 @@ module _ (m : Message) (xs ys us vs : List ℤ) where
       ∙ (placing m).again _ _ _ _ ∙ ap₂ (placed_at m) (axes_back.0 s) (axes_back.1 t) ∙ (placing m).own
 
   -- the way back of a message that fits lands
-  pub back_lands : message_trouble m ≡ Nothing
+  pub back_lands : message_trouble m ≡ nothing
       → (TakesBack xs us → x_lands (position_of gone) (sum_z us) ≡ true) × (TakesBack ys vs → y_lands (position_of gone) (sum_z vs) ≡ true)
   back_lands none = go (position_of m) refl
     where
@@ -194,7 +194,7 @@ module _ (m : Message) (xs ys us vs : List ℤ) where
           )
 
 -- a message that fits and lands was not moved by more than 6,144,000 feet
-pub lands_near : (m : Message) (xs ys : List ℤ) → is_somewhere (position_of m) ≡ true → message_trouble m ≡ Nothing → x_lands (position_of m) (sum_z xs) ≡ true → y_lands (position_of m) (sum_z ys) ≡ true
+pub lands_near : (m : Message) (xs ys : List ℤ) → is_somewhere (position_of m) ≡ true → message_trouble m ≡ nothing → x_lands (position_of m) (sum_z xs) ≡ true → y_lands (position_of m) (sum_z ys) ≡ true
     → (nat_abs (sum_z xs) ≤ 6144000) × (nat_abs (sum_z ys) ≤ 6144000)
 lands_near m xs ys h none = go (position_of m) refl
   where

@@ -5,12 +5,12 @@ use Rattle.layout.specs.Rules.{rule_trouble}
 use Rattle.layout.proofs.RuleLaws.{no_rule}
 use Rattle.layout.proofs.check_field.Goals as goal
 
-pub returns-then-rule-eq0 : goal.returns-then-rule-eq0
-returns-then-rule-eq0 c =
+pub returns-then-slot-eq0 : goal.returns-then-slot-eq0
+returns-then-slot-eq0 c =
     let a = c.args in
-    rw c.if-rule-eq0.true (sym (no_rule a.at (field_of a.word a.at a.width)))
+    rw c.if-slot-eq0.true (sym (no_rule a.at (field_of a.word a.at a.slot.width)))
 
 pub returns : goal.returns
 returns c =
     let a = c.args in
-    c.check_rule.ensures ∙ ap (rule_trouble a.at a.rule) c.field.ensures
+    c.check_rule.ensures ∙ ap (rule_trouble a.at a.slot.rule) c.field.ensures

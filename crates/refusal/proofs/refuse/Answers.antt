@@ -7,4 +7,4 @@ use Rattle.refusal.proofs.refuse.Goals as goal
 pub returns : goal.returns
 returns c =
     let a = c.args in
-    c.inside.ensures ∙ ap (λ (n : ℕ). numbered_in n a.place a.bit) c.number_of.ensures
+    c.inside.ensures ∙ ap (λ (n : ℕ). numbered_in n a.place a.trouble.bit) c.number_of.ensures
