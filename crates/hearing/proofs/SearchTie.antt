@@ -6,11 +6,10 @@ use Prim.Native.Nat.{ℕ, zero, suc, ◌+◌, ◌-◌, ◌*◌, ◌≤◌, ◌<�
 use native.Mathlib.Omega.{arith}
 use borrow.Author.Tests.{le-leb, le-ltb}
 use lib.ListN.{length}
+use Rattle.std.specs.Prelude.{Result}
 use Rattle.bits.specs.Tests.{both}
 use Rattle.sieve.specs.Capture.{good_at, Least}
 use Rattle.capture.specs.Search.{search_of}
-use Rattle.capture.specs.declared.Found.{Found}
-use Rattle.capture.specs.declared.Found.TheVariants.{At, Refused}
 use Rattle.sieve.proofs.SieveLaws.{good_whole}
 use Rattle.capture.proofs.SearchLaws.{found_least, none_answered}
 use Rattle.bits.proofs.TestLaws.{never_true}
@@ -45,7 +44,7 @@ module _ (capture : List ℕ) where
     from_start zero start inside enough = absurd (omega arith)
     from_start (suc n) start inside enough = go (search_of capture start) refl (λ p a b. from_start n (p + 1) a b)
       where
-        go : (f : Found) → search_of capture start ≡ f
+        go : (f : Result ℕ Refusal) → search_of capture start ≡ f
             → ((p : ℕ) → p + 1 ≤ 8 * length capture → 8 * length capture < n + (p + 1)
             → ends_to capture (8 * length capture + 127) ≡ ends_to capture (p + 1 + 127) ++ map (λ (p : ℕ). p + 128) (found_from capture n (p + 1)))
             → ends_to capture (8 * length capture + 127)

@@ -1,10 +1,8 @@
 -- Where frames end in a capture (02, item 5): 'the bits read through its last', said of good frames, by positions and of the search.
-use Rattle.std.specs.Prelude.{Bool, List, [], ◌∷◌, ◌++◌, ℕ, zero, suc, ◌+◌, ◌-◌, ◌*◌, leb, length}
+use Rattle.std.specs.Prelude.{Bool, List, [], ◌∷◌, ◌++◌, ℕ, zero, suc, ◌+◌, ◌-◌, ◌*◌, leb, length, Result}
 use Rattle.bits.specs.Tests.{pick, both}
 use Rattle.sieve.specs.Capture.{good_at}
 use Rattle.capture.specs.Search.{search_of}
-use Rattle.capture.specs.declared.Found.{Found}
-use Rattle.capture.specs.declared.Found.TheVariants.{At, Refused}
 use Rattle.octets.specs.Feeding.{heard_at}
 use Rattle.octets.specs.declared.HeardOctet.{HeardOctet}
 
@@ -31,7 +29,7 @@ heard_to capture zero = []
 heard_to capture (suc k) = heard_to capture k ++ end_in k (heard_at capture k)
 
 -- the positions that repeated search gives, from a start on and then from each position found plus 1, in at most so many searches
-abbrev pub and_on : Found → (ℕ → List ℕ) → List ℕ
+abbrev pub and_on : Result ℕ Refusal → (ℕ → List ℕ) → List ℕ
 and_on (At p) next = p ∷ next (p + 1)
 and_on (Refused r) next = []
 

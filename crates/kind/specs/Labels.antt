@@ -1,5 +1,5 @@
 -- The kind that a word's label names (001, Annex A, Appendix 5, Table A5-1).
-use Rattle.std.specs.Prelude.{Bool, true, false, List, [], ◌∷◌, ℕ, ◌%◌, ◌^◌, eqb}
+use Rattle.std.specs.Prelude.{Bool, true, false, List, [], ◌∷◌, ℕ, ◌%◌, ◌^◌, eqb, Result, Ok, Err, Option, Some, None}
 use Rattle.bits.specs.Tests.{pick}
 use Rattle.refusal.specs.Refusals.{numbered, success, unknown_label}
 use Rattle.refusal.specs.Checks.{Check, check, first_refusal, answered}
@@ -7,27 +7,23 @@ use Rattle.refusal.specs.declared.Refusal.{Refusal}
 use Rattle.kind.specs.Layouts.{all_kinds, label_of}
 use Rattle.kind.specs.declared.Kind.{Kind}
 use Rattle.kind.specs.declared.Kind.TheVariants.{Blank}
-use Rattle.kind.specs.declared.Labelled.{Labelled}
-use Rattle.kind.specs.declared.Labelled.TheVariants.{Known, Unknown}
-use Rattle.kind.specs.declared.Named.{Named}
-use Rattle.kind.specs.declared.Named.TheVariants as N
 
-abbrev pub kind_from : List Kind → ℕ → Labelled
-kind_from [] n = Unknown
-kind_from (k ∷ ks) n = pick (eqb n (label_of k)) (Known k) (kind_from ks n)
+abbrev pub kind_from : List Kind → ℕ → Option Kind
+kind_from [] n = None
+kind_from (k ∷ ks) n = pick (eqb n (label_of k)) (Some k) (kind_from ks n)
 
 -- bits 1 to 6 of a word
-abbrev pub labelled_of : ℕ → Labelled
+abbrev pub labelled_of : ℕ → Option Kind
 labelled_of word = kind_from all_kinds (word % 2 ^ 6)
 
-abbrev pub is_known : Labelled → Bool
-is_known (Known k) = true
-is_known Unknown = false
+abbrev pub is_known : Option Kind → Bool
+is_known (Some k) = true
+is_known None = false
 
 -- a kind in any case, so that the checks after the label's can be said: Blank where the label is unknown
-abbrev pub kind_named : Labelled → Kind
-kind_named (Known k) = k
-kind_named Unknown = Blank
+abbrev pub kind_named : Option Kind → Kind
+kind_named (Some k) = k
+kind_named None = Blank
 
 -- ---- the kind of a label alone: 6, place 0 (docs/DECISIONS.md, 'The public list and the listing')
 
@@ -38,10 +34,5 @@ unfoldable pub name_refusal : ℕ → Refusal
 name_refusal label = first_refusal (name_checks label)
 
 -- what `kind_named` answers
-unfoldable pub named_of : ℕ → Named
-named_of label = answered N.Refused (name_refusal label) (N.Kind (kind_named (kind_from all_kinds label)))
-
--- 01's number and place of each case
-abbrev pub refusal_in_named : Named → Refusal
-refusal_in_named (N.Kind k) = numbered success
-refusal_in_named (N.Refused r) = r
+unfoldable pub named_of : ℕ → Result Kind Refusal
+named_of label = answered (name_refusal label) (kind_named (kind_from all_kinds label))

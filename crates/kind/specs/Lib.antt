@@ -1,3 +1,2 @@
 pub mod Layouts
 pub mod Labels
-pub mod Tables

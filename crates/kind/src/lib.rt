@@ -4,7 +4,7 @@
 
 ghost use Rattle.std.specs.Prelude.{◌≡◌, ◌<◌, length};
 ghost use Rattle.kind.specs.Layouts.{all_kinds, number_of, label_of};
-ghost use Rattle.kind.specs.Labels.{kind_from, labelled_of, refusal_in_named, named_of};
+ghost use Rattle.kind.specs.Labels.{kind_from, labelled_of, named_of};
 
 use refusal::Refusal;
 
@@ -22,21 +22,6 @@ pub enum Kind {
     S9,
 }
 
-// The kind that a label names.
-#[derive(Clone, Copy)]
-pub enum Labelled {
-    Known(Kind),
-    Unknown,
-}
-
-// A kind's layout above the label: the width and the rule of each field, with zeros behind the last.
-#[derive(Clone, Copy)]
-pub struct Table {
-    pub count: usize,
-    pub widths: [u32; 12],
-    pub rules: [u64; 12],
-}
-
 // How many kinds there are.
 pub const KINDS: usize = 10;
 
@@ -44,18 +29,7 @@ pub const KINDS: usize = 10;
 pub fn number(k: Kind) -> usize
     ensures { (result ≡ number_of k) × (result < length all_kinds) }
 {
-    match k {
-        Kind::Blank => 0,
-        Kind::S0 => 1,
-        Kind::S3 => 2,
-        Kind::S4 => 3,
-        Kind::S4Plus => 4,
-        Kind::S5 => 5,
-        Kind::S6 => 6,
-        Kind::S8 => 7,
-        Kind::S8Plus => 8,
-        Kind::S9 => 9,
-    }
+    k as usize
 }
 
 // The labels in the order of the kinds' numbers.
@@ -68,56 +42,34 @@ pub fn label(k: Kind) -> u8
     LABELS[number(k)]
 }
 
-fn find_label(label: u64) -> Labelled
+fn find_label(label: u64) -> Option<Kind>
     ensures { result ≡ kind_from all_kinds label }
 {
     match label {
-        0 => Labelled::Known(Kind::Blank),
-        46 => Labelled::Known(Kind::S0),
-        19 => Labelled::Known(Kind::S3),
-        17 => Labelled::Known(Kind::S4),
-        49 => Labelled::Known(Kind::S4Plus),
-        18 => Labelled::Known(Kind::S5),
-        20 => Labelled::Known(Kind::S6),
-        21 => Labelled::Known(Kind::S8),
-        53 => Labelled::Known(Kind::S8Plus),
-        5 => Labelled::Known(Kind::S9),
-        _ => Labelled::Unknown,
+        0 => Some(Kind::Blank),
+        46 => Some(Kind::S0),
+        19 => Some(Kind::S3),
+        17 => Some(Kind::S4),
+        49 => Some(Kind::S4Plus),
+        18 => Some(Kind::S5),
+        20 => Some(Kind::S6),
+        21 => Some(Kind::S8),
+        53 => Some(Kind::S8Plus),
+        5 => Some(Kind::S9),
+        _ => None,
     }
 }
 
 // The kind that the label of a word names.
-pub fn find_kind(word: u64) -> Labelled
+pub fn find_kind(word: u64) -> Option<Kind>
     ensures { result ≡ labelled_of word }
 {
     find_label(word % 64)
 }
 
-// The kind of a label, or the refusal.
-#[derive(Clone, Copy)]
-pub enum Named {
-    Kind(Kind),
-    Refused(Refusal),
-}
-
-impl Named {
-    // The answer as a number, a place and a bit.
-    pub fn refusal(self) -> Refusal
-        ensures { result ≡ refusal_in_named self }
-    {
-        match self {
-            Named::Kind(_) => Refusal::of(refusal::SUCCESS),
-            Named::Refused(r) => r,
-        }
-    }
-}
-
 // The kind that a label names: 6.
-pub fn kind_named(label: u8) -> Named
+pub fn kind_named(label: u8) -> Result<Kind, Refusal>
     ensures { result ≡ named_of label }
 {
-    match find_label(label as u64) {
-        Labelled::Known(k) => Named::Kind(k),
-        Labelled::Unknown => Named::Refused(Refusal::of(refusal::UNKNOWN_LABEL)),
-    }
+    find_label(label as u64).ok_or(Refusal::of(refusal::UNKNOWN_LABEL))
 }

@@ -16,9 +16,10 @@ use Rattle.bits.specs.Tests.{pick}
 use Rattle.bits.specs.Numbers.{bit, num_of, field_of, placed_of}
 use Rattle.layout.specs.Layout.{Field, pattern, spare, number, code, flag, signed, width_of, Values, write_as, join}
 use Rattle.layout.specs.Trouble.{Checked, nothing, wrong, or_else, agreeing, differing, none_of, trouble_in, misfit_in, trouble, misfit}
-use Rattle.layout.specs.Rules.{rule_of, slots_of, rule_trouble, rule_misfit, raw_of, total, ruled, fitting, sum_at, packed_if, packed_of}
+use Rattle.layout.specs.Rules.{rule_of, slot_of, slots_of, rule_trouble, rule_misfit, raw_of, total, ruled, fitting, sum_at, packed_if, packed_of}
 use Rattle.layout.specs.declared.Cause.{Cause}
 use Rattle.layout.specs.declared.Cause.TheVariants.{Pattern, Spare, Unused, TooWide}
+use Rattle.layout.specs.declared.Rule.TheVariants as R
 use Rattle.layout.specs.declared.Slot.{Slot}
 use Rattle.layout.specs.declared.Trouble.{Trouble}
 use Rattle.bits.proofs.TestLaws.{zero_one}
@@ -27,9 +28,6 @@ use Rattle.layout.proofs.LowestLaws.{agreeing_enough}
 use Rattle.bits.proofs.NumberLaws.{num_bit, num_lt, placed_lt}
 
 -- ---- a rule says what its field allows
-
-pub no_rule : (at n : ℕ) → rule_trouble at 0 n ≡ nothing
-no_rule at n = rw (eq-eqb (0 / 2 ^ n % 2) 0 (ap (λ (x : ℕ). x % 2) (zero-div (2 ^ n))))
 
 bit_lt : (b : Bool) → bit b < 2
 bit_lt true = lit< tt
@@ -40,12 +38,9 @@ bit_not true = refl
 bit_not false = refl
 
 rule_code : (at : ℕ) (unused : List ℕ) (n : ℕ) → n < 16
-    → rule_trouble at (num_of (λ i. bit (not (none_of unused i))) 16) n ≡ pick (none_of unused n) nothing (wrong Unused (at + 1))
+    → rule_trouble at (R.Without (num_of (λ i. bit (not (none_of unused i))) 16)) n ≡ pick (none_of unused n) nothing (wrong Unused (at + 1))
 rule_code at unused n h =
-    let f : ℕ → ℕ = λ i. bit (not (none_of unused i)) in
-    let b : (i : ℕ) → f i < 2 = λ i. bit_lt (not (none_of unused i)) in
-    let l : num_of f 16 < 2 ^ 16 = num_lt f 16 (λ i _. b i) in
-    rw (lt-leb (2 ^ 63) (num_of f 16) (omega arith), lt-leb (2 ^ 62) (num_of f 16) (omega arith), num_bit f 16 n b h)
+    rw (num_bit (λ i. bit (not (none_of unused i))) 16 n (λ i. bit_lt (not (none_of unused i))) h)
     (ap (λ (b : Bool). pick b nothing (wrong Unused (at + 1))) (bit_not (none_of unused n)))
 
 -- the code looks at all 64 bits
@@ -57,16 +52,12 @@ differing_same d at k n x l h g = go (eqb n x) refl
     go false e = ap (λ (i : ℕ). wrong d (at + i + 1)) (agreeing_enough k 64 n x l h g (eqb-false n x e))
 
 rule_field : (at : ℕ) (f : Field) (n : ℕ) → T (is_sayable f) → n < 2 ^ width_of f → rule_trouble at (rule_of f) n ≡ trouble_in at f n
-rule_field at (pattern k c) n t h =
-    let e : 2 ^ 63 + c - 2 ^ 63 ≡ c = omega arith in
-    rw (le-leb (2 ^ 63) (2 ^ 63 + c) (omega arith))
-    (ap (differing Pattern at 64 n) e
-    ∙ differing_same Pattern at k n c (pattern_short k c t).0 h (pattern_short k c t).1)
+rule_field at (pattern k c) n t h = differing_same Pattern at k n c (pattern_short k c t).0 h (pattern_short k c t).1
 rule_field at (spare k) n t h = differing_same Spare at k n 0 (leb→le _ _ t) h (pow_pos k)
-rule_field at (number k) n t h = no_rule at n
+rule_field at (number k) n t h = refl
 rule_field at (code k unused) n t h = rule_code at unused n (lt_of_lt_of_le h (leb→le _ _ t))
-rule_field at flag n t h = no_rule at n
-rule_field at (signed k) n t h = no_rule at n
+rule_field at flag n t h = refl
+rule_field at (signed k) n t h = refl
 
 pub ruled_layout : (at : ℕ) (fs : List Field) (word : ℕ) → T (are_sound fs) → ruled at (slots_of fs) word ≡ trouble at fs word
 ruled_layout at [] word t = refl
@@ -74,7 +65,7 @@ ruled_layout at (f ∷ fs) word t =
     ap₂ or_else (rule_field at f (field_of word at (width_of f)) (sayable f (first_sound f fs t)) (mod-lt _ (pow_pos (width_of f))))
     (ruled_layout (at + width_of f) fs word (rest_sound f fs t))
 
-misfit_field : (at : ℕ) (f : Field) (n : ℕ) → T (is_sayable f) → rule_misfit at (width_of f) (rule_of f) n ≡ misfit_in at f n
+misfit_field : (at : ℕ) (f : Field) (n : ℕ) → T (is_sayable f) → rule_misfit at (slot_of f) n ≡ misfit_in at f n
 misfit_field at f n t = go (ltb n (2 ^ width_of f)) _ refl
   where
     go : (b : Bool) (lowest : ℕ) → ltb n (2 ^ width_of f) ≡ b → pick b (rule_trouble at (rule_of f) n) (wrong TooWide lowest) ≡ pick b (trouble_in at f n) (wrong TooWide lowest)
@@ -109,13 +100,13 @@ packed_wrong (Err t) n s e = cc
 -- ---- a turn of the loops
 
 abbrev pub no_slot : Slot
-no_slot = record { width = 0; rule = 0 }
+no_slot = record { 0 = 0; 1 = R.Free }
 
 -- slot i
 abbrev pub slot_at : List Slot → ℕ → Slot
 slot_at ss i = get_or ss i no_slot
 
-total_step : (ss : List Slot) (i : ℕ) → i < length ss → total (drop i ss) ≡ (slot_at ss i).width + total (drop (i + 1) ss)
+total_step : (ss : List Slot) (i : ℕ) → i < length ss → total (drop i ss) ≡ (slot_at ss i).0 + total (drop (i + 1) ss)
 total_step ss i h = rw (add-one i, drop-cons ss i no_slot h)
 
 -- where the loop over a word's fields stands: field i, at weight 2 ^ at; t is the answer
@@ -124,16 +115,16 @@ pub record Ruling (t : Checked) (word : ℕ) (ss : List Slot) (at i : ℕ) : Typ
   pub rest : t ≡ ruled at (drop i ss) word
 
 module _ {t : Checked} {word : ℕ} {ss : List Slot} {at i : ℕ} (s : Ruling t word ss at i) (l : i < length ss) where
-  pub ruling_room : at + (slot_at ss i).width < 64
+  pub ruling_room : at + (slot_at ss i).0 < 64
   ruling_room = omega (arith, s.room, total_step ss i l)
 
-  ruling_step : t ≡ or_else (rule_trouble at (slot_at ss i).rule (field_of word at (slot_at ss i).width)) (ruled (at + (slot_at ss i).width) (drop (i + 1) ss) word)
+  ruling_step : t ≡ or_else (rule_trouble at (slot_at ss i).1 (field_of word at (slot_at ss i).0)) (ruled (at + (slot_at ss i).0) (drop (i + 1) ss) word)
   ruling_step = s.rest ∙ rw (add-one i, drop-cons ss i no_slot l)
 
-  pub ruling_more : rule_trouble at (slot_at ss i).rule (field_of word at (slot_at ss i).width) ≡ nothing → Ruling t word ss (at + (slot_at ss i).width) (i + 1)
+  pub ruling_more : rule_trouble at (slot_at ss i).1 (field_of word at (slot_at ss i).0) ≡ nothing → Ruling t word ss (at + (slot_at ss i).0) (i + 1)
   ruling_more e = record { room = omega (arith, s.room, total_step ss i l); rest = ruling_step ∙ rw e }
 
-  pub ruling_bad : {x : Trouble} → rule_trouble at (slot_at ss i).rule (field_of word at (slot_at ss i).width) ≡ Err x → t ≡ Err x
+  pub ruling_bad : {x : Trouble} → rule_trouble at (slot_at ss i).1 (field_of word at (slot_at ss i).0) ≡ Err x → t ≡ Err x
   ruling_bad e = ruling_step ∙ rw e
 
 pub ruling_done : {t : Checked} {word : ℕ} {ss : List Slot} {at i : ℕ} → Ruling t word ss at i → length ss ≤ i → t ≡ pick (eqb (word / 2 ^ at) 0) nothing (wrong Spare (at + 1))
@@ -146,38 +137,38 @@ pub record Packing (p : Result ℕ Trouble) (word : ℕ) (ss : List Slot) (ns : 
   pub rest : p ≡ packed_of word at (drop i ss) (drop i ns)
 
 -- a number with which nothing is wrong is not too wide
-misfit_lt : (at w r n : ℕ) → rule_misfit at w r n ≡ nothing → n < 2 ^ w
-misfit_lt at w r n = go (ltb n (2 ^ w)) _ refl
+misfit_lt : (at : ℕ) (s : Slot) (n : ℕ) → rule_misfit at s n ≡ nothing → n < 2 ^ s.0
+misfit_lt at s n = go (ltb n (2 ^ s.0)) _ refl
   where
-    go : (b : Bool) (lowest : ℕ) → ltb n (2 ^ w) ≡ b → pick b (rule_trouble at r n) (wrong TooWide lowest) ≡ nothing → n < 2 ^ w
+    go : (b : Bool) (lowest : ℕ) → ltb n (2 ^ s.0) ≡ b → pick b (rule_trouble at s.1 n) (wrong TooWide lowest) ≡ nothing → n < 2 ^ s.0
     go true lowest q e = ltb-true _ _ q
     go false lowest q e = zero_one (cc)
 
 module _ {p : Result ℕ Trouble} {word : ℕ} {ss : List Slot} {ns : List ℕ} {at i : ℕ} (s : Packing p word ss ns at i) (ls : i < length ss) (ln : i < length ns) where
-  pub packing_room : at + (slot_at ss i).width < 64
+  pub packing_room : at + (slot_at ss i).0 < 64
   packing_room = omega (arith, s.room, total_step ss i ls)
 
-  pub packing_lt : rule_misfit at (slot_at ss i).width (slot_at ss i).rule (get_or ns i 0) ≡ nothing → get_or ns i 0 < 2 ^ (slot_at ss i).width
-  packing_lt e = misfit_lt at (slot_at ss i).width (slot_at ss i).rule (get_or ns i 0) e
+  pub packing_lt : rule_misfit at (slot_at ss i) (get_or ns i 0) ≡ nothing → get_or ns i 0 < 2 ^ (slot_at ss i).0
+  packing_lt e = misfit_lt at (slot_at ss i) (get_or ns i 0) e
 
   packing_step : p ≡ packed_of word at (slot_at ss i ∷ drop (i + 1) ss) (get_or ns i 0 ∷ drop (i + 1) ns)
   packing_step = s.rest ∙ rw (add-one i, drop-cons ss i no_slot ls, drop-cons ns i 0 ln)
 
-  pub packing_more : rule_misfit at (slot_at ss i).width (slot_at ss i).rule (get_or ns i 0) ≡ nothing
-      → Packing p (placed_of word at (get_or ns i 0)) ss ns (at + (slot_at ss i).width) (i + 1)
+  pub packing_more : rule_misfit at (slot_at ss i) (get_or ns i 0) ≡ nothing
+      → Packing p (placed_of word at (get_or ns i 0)) ss ns (at + (slot_at ss i).0) (i + 1)
   unfolding packed_of
   packing_more e =
       record {
         room = omega (arith, s.room, total_step ss i ls);
-        low = placed_lt word at (slot_at ss i).width (get_or ns i 0) s.low (packing_lt e);
-        rest = packing_step ∙ rw e (ap (packed_if (fitting (at + (slot_at ss i).width) (drop (i + 1) ss) (drop (i + 1) ns))) sums);
+        low = placed_lt word at (slot_at ss i).0 (get_or ns i 0) s.low (packing_lt e);
+        rest = packing_step ∙ rw e (ap (packed_if (fitting (at + (slot_at ss i).0) (drop (i + 1) ss) (drop (i + 1) ns))) sums);
       }
     where
-      sums : get_or ns i 0 * 2 ^ at + sum_at (at + (slot_at ss i).width) (drop (i + 1) ss) (drop (i + 1) ns) + word
-          ≡ sum_at (at + (slot_at ss i).width) (drop (i + 1) ss) (drop (i + 1) ns) + (get_or ns i 0 * 2 ^ at + word)
+      sums : get_or ns i 0 * 2 ^ at + sum_at (at + (slot_at ss i).0) (drop (i + 1) ss) (drop (i + 1) ns) + word
+          ≡ sum_at (at + (slot_at ss i).0) (drop (i + 1) ss) (drop (i + 1) ns) + (get_or ns i 0 * 2 ^ at + word)
       sums = omega arith
 
-  pub packing_bad : {x : Trouble} → rule_misfit at (slot_at ss i).width (slot_at ss i).rule (get_or ns i 0) ≡ Err x → p ≡ Err x
+  pub packing_bad : {x : Trouble} → rule_misfit at (slot_at ss i) (get_or ns i 0) ≡ Err x → p ≡ Err x
   unfolding packed_of
   packing_bad e = packing_step ∙ rw e
 

@@ -23,18 +23,18 @@ pub struct Trouble {
     pub bit: u8,
 }
 
-// A field as the code has it: how many bits, and their rule.
+// What the bits of a field may be: anything; one number alone; zero; no code for which there is a one.
 #[derive(Clone, Copy)]
-pub struct Slot {
-    pub width: u32,
-    pub rule: u64,
+pub enum Rule {
+    Free,
+    Pattern(u64),
+    Spare,
+    Without(u64),
 }
 
-// A rule from here on is the number that a pattern always is.
-pub const PATTERN: u64 = 0x8000_0000_0000_0000;
-
-// The rule of spare bits; below it, a rule has a one for each code that is not used.
-pub const SPARE: u64 = 0x4000_0000_0000_0000;
+// A field as the code has it: how many bits, and their rule.
+#[derive(Clone, Copy)]
+pub struct Slot(pub u32, pub Rule);
 
 // Something is wrong from the bit of weight 2^at on.
 fn wrong_at(cause: Cause, at: u32) -> Result<(), Trouble>
@@ -63,36 +63,44 @@ fn compare(cause: Cause, at: u32, n: u64, x: u64) -> Result<(), Trouble>
     wrong_at(cause, at + lowest(n, x))
 }
 
-// What is wrong with the bits n of a field by its rule.
-fn check_rule(at: u32, rule: u64, n: u64) -> Result<(), Trouble>
+// What is wrong with a code n that may be one of those that are not used.
+fn check_code(at: u32, unused: u64, n: u64) -> Result<(), Trouble>
     requires { at < 64 }
-    ensures { result ≡ rule_trouble at rule n }
+    ensures { result ≡ rule_trouble at (Rule.Without unused) n }
 {
-    if PATTERN <= rule {
-        return compare(Cause::Pattern, at, n, rule - PATTERN);
-    }
-    if SPARE <= rule {
-        return compare(Cause::Spare, at, n, 0);
-    }
-    // a rule names no code above 63
+    // no code above 63 has a place among them
     if 63 < n {
         return Ok(());
     }
-    if (rule >> n) % 2 == 0 {
+    if (unused >> n) % 2 == 0 {
         return Ok(());
     }
     wrong_at(Cause::Unused, at)
 }
 
+// What is wrong with the bits n of a field by its rule.
+fn check_rule(at: u32, rule: Rule, n: u64) -> Result<(), Trouble>
+    requires { at < 64 }
+    ensures { result ≡ rule_trouble at rule n }
+{
+    match rule {
+        Rule::Free => Ok(()),
+        Rule::Pattern(x) => compare(Cause::Pattern, at, n, x),
+        Rule::Spare => compare(Cause::Spare, at, n, 0),
+        Rule::Without(unused) => check_code(at, unused, n),
+    }
+}
+
 // What is wrong with a field of a word. Most fields are free, and need not be taken out of the word.
 fn check_field(word: u64, at: u32, slot: Slot) -> Result<(), Trouble>
-    requires { at + slot.width < 64 }
-    ensures { result ≡ rule_trouble at slot.rule (field_of word at slot.width) }
+    requires { at + slot.0 < 64 }
+    ensures { result ≡ rule_trouble at slot.1 (field_of word at slot.0) }
 {
-    if slot.rule == 0 {
+    let Slot(width, rule) = slot;
+    if let Rule::Free = rule {
         return Ok(());
     }
-    check_rule(at, slot.rule, bits::field(word, at, slot.width))
+    check_rule(at, rule, bits::field(word, at, width))
 }
 
 // What is first wrong with the fields of a word above its `low` bits, by their rules.
@@ -103,7 +111,7 @@ pub fn find_trouble(word: u64, low: u32, slots: &[Slot]) -> Result<(), Trouble>
     let mut at = low;
     for slot in slots {
         check_field(word, at, *slot)?;
-        at += slot.width;
+        at += slot.0;
     }
     // a message has no bit above its layout
     if word >> at == 0 {
@@ -114,13 +122,14 @@ pub fn find_trouble(word: u64, low: u32, slots: &[Slot]) -> Result<(), Trouble>
 
 // What is wrong with a value for a field, by its width and its rule.
 fn check_value(at: u32, slot: Slot, value: u64) -> Result<(), Trouble>
-    requires { at + slot.width < 64 }
-    ensures { result ≡ rule_misfit at slot.width slot.rule value }
+    requires { at + slot.0 < 64 }
+    ensures { result ≡ rule_misfit at slot value }
 {
-    if value >> slot.width != 0 {
+    let Slot(width, rule) = slot;
+    if value >> width != 0 {
         return wrong_at(Cause::TooWide, at);
     }
-    check_rule(at, slot.rule, value)
+    check_rule(at, rule, value)
 }
 
 // The values put side by side above the `low` bits of a word, if each fits its width and keeps its rule.
@@ -133,8 +142,8 @@ pub fn pack(word: u64, low: u32, slots: &[Slot], values: &[u64]) -> Result<u64, 
     for (i, slot) in slots.iter().enumerate() {
         let value = values[i];
         check_value(at, *slot, value)?;
-        packed = bits::place(packed, at, slot.width, value);
-        at += slot.width;
+        packed = bits::place(packed, at, slot.0, value);
+        at += slot.0;
     }
     Ok(packed)
 }

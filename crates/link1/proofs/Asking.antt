@@ -7,6 +7,7 @@ use mathlib.Core.List.{List, [], ◌∷◌, map}
 use Prim.Native.Nat.{ℕ, zero, suc, ◌-◌, ◌/◌, ◌%◌, ◌^◌}
 use lib.IntN.{ℤ, pos}
 use lib.ListN.{length, replicate}
+use Rattle.std.specs.Prelude.{Result, Ok, Err}
 use Rattle.refusal.specs.declared.Refusal.{Refusal}
 use Rattle.frame.specs.Frame.{verdict_of}
 use Rattle.line.specs.Machine.{heard_of, run}
@@ -18,13 +19,9 @@ use Rattle.capture.specs.Search.{search_of, position_found}
 use Rattle.capture.specs.Search as searching
 use Rattle.units.specs.Heights.{height_of}
 use Rattle.units.specs.Heights as heights
-use Rattle.units.specs.declared.Height.{Height}
-use Rattle.units.specs.declared.Height.TheVariants as H
 use Rattle.kind.specs.Layouts.{label_of}
 use Rattle.kind.specs.Labels.{named_of}
 use Rattle.kind.specs.Labels as labels
-use Rattle.kind.specs.declared.Named.{Named}
-use Rattle.kind.specs.declared.Named.TheVariants as N
 use Rattle.message.specs.declared.Track.{Track}
 use Rattle.message.specs.declared.Message.{Message}
 use Rattle.message.specs.declared.Message.TheVariants as m
@@ -33,8 +30,6 @@ use Rattle.track.specs.TrackText as tracks
 use Rattle.pair.specs.Opening.{open_of, word_message, first_word}
 use Rattle.pair.specs.Opening as opening
 use Rattle.pair.specs.Closing.{close_refusal, close_image}
-use Rattle.pair.specs.declared.Opened.{Opened}
-use Rattle.pair.specs.declared.Opened.TheVariants as O
 use Rattle.relay.specs.Relay.{relay_refusal, relay_image}
 
 -- ---- the rows' words
@@ -122,16 +117,16 @@ abbrev tell : Refusal → Value → Came
 tell r v = told_bit r.number r.place r.bit v
 
 abbrev value_opened : Opened → Value
-value_opened (O.Pair first second) = pair first second
-value_opened (O.Refused r) = nothing
+value_opened (Ok (first, second)) = pair first second
+value_opened (Err r) = nothing
 
-abbrev value_named : Named → Value
-value_named (N.Kind k) = value (label_of k)
-value_named (N.Refused r) = nothing
+abbrev value_named : Result Kind Refusal → Value
+value_named (Ok k) = value (label_of k)
+value_named (Err r) = nothing
 
-abbrev value_height : Height → Value
-value_height (H.At n) = value n.0
-value_height (H.Refused r) = nothing
+abbrev value_height : Result AltSteps Refusal → Value
+value_height (Ok n) = value n.0
+value_height (Err r) = nothing
 
 -- the track number of a message that has one
 abbrev track_in : Message → ℕ

@@ -9,6 +9,7 @@ use lib.IntN.{ℤ}
 use contract.Lifetimes.{Lfts}
 use denote.Ref.{Bor}
 use denote.MutBor.{MutBor}
+use Rattle.std.specs.Prelude.{Result}
 use Rattle.refusal.specs.declared.Refusal.{Refusal}
 use Rattle.frame.specs.Frame.{verdict_of}
 use Rattle.line.specs.Machine.{heard_of}
@@ -19,17 +20,12 @@ use Rattle.octets.specs.Feeding.{heard_octet}
 use Rattle.octets.specs.declared.OctetReceiver.{OctetReceiver}
 use Rattle.octets.specs.declared.HeardOctet.{HeardOctet}
 use Rattle.capture.specs.Search.{search_of}
-use Rattle.capture.specs.declared.Found.{Found}
 use Rattle.units.specs.Heights.{height_of}
-use Rattle.units.specs.declared.Height.{Height}
 use Rattle.kind.specs.Labels.{named_of}
-use Rattle.kind.specs.declared.Named.{Named}
 use Rattle.message.specs.declared.Message.{Message}
 use Rattle.track.specs.TrackText.{tracked_of, text_refusal, text_after, Spelled}
-use Rattle.track.specs.declared.Tracked.{Tracked}
 use Rattle.pair.specs.Opening.{open_of}
 use Rattle.pair.specs.Closing.{close_refusal, close_image, Closed}
-use Rattle.pair.specs.declared.Opened.{Opened}
 use Rattle.relay.specs.Relay.{relay_refusal, relay_image, Relayed}
 use Rattle.frame.proofs.verdict.Reads as verdict
 use Rattle.line.proofs.Receiver.step.Reads as step
@@ -132,10 +128,10 @@ sends_any κs image previous buffer =
 
 -- ---- `search`: a capture and a start, and the position or the refusal
 
-pub data Searches : List ℕ → ℕ → Found → Type 0 where
-  searches : (κs : Lfts 1) (a : _) (r : Found) (e : _) → search-call.Post κs a r e → Searches a.0.now a.1.0 r
+pub data Searches : List ℕ → ℕ → Result ℕ Refusal → Type 0 where
+  searches : (κs : Lfts 1) (a : _) (r : Result ℕ Refusal) (e : _) → search-call.Post κs a r e → Searches a.0.now a.1.0 r
 
-pub searched : {capture : List ℕ} {start : ℕ} {r : Found} → Searches capture start r → r ≡ search_of capture start
+pub searched : {capture : List ℕ} {start : ℕ} {r : Result ℕ Refusal} → Searches capture start r → r ≡ search_of capture start
 searched (searches κs a r e p) = p
 
 pub searches_any : (κs : Lfts 1) (capture : List ℕ) (start : ℕ) → Searches capture start (search_of capture start)
@@ -143,10 +139,10 @@ searches_any κs capture start = searches κs (lent capture, (start, tt)) (searc
 
 -- ---- `altitude`: feet, and the altitude step or the refusal
 
-pub data Climbs : ℤ → Height → Type 0 where
-  climbs : (κs : Lfts 0) (a : _) (r : Height) (e : _) → altitude.Post κs a r e → Climbs a.0.0 r
+pub data Climbs : ℤ → Result AltSteps Refusal → Type 0 where
+  climbs : (κs : Lfts 0) (a : _) (r : Result AltSteps Refusal) (e : _) → altitude.Post κs a r e → Climbs a.0.0 r
 
-pub climbed : {feet : ℤ} {r : Height} → Climbs feet r → r ≡ height_of feet
+pub climbed : {feet : ℤ} {r : Result AltSteps Refusal} → Climbs feet r → r ≡ height_of feet
 climbed (climbs κs a r e p) = p
 
 pub climbs_any : (κs : Lfts 0) (feet : ℤ) → Climbs feet (height_of feet)
@@ -154,10 +150,10 @@ climbs_any κs feet = climbs κs (record { 0 = feet }, tt) (height_of feet) (rec
 
 -- ---- `kind_named`: a label, and the kind or the refusal
 
-pub data Names : ℕ → Named → Type 0 where
-  names : (κs : Lfts 0) (a : _) (r : Named) (e : _) → kind_named.Post κs a r e → Names a.0 r
+pub data Names : ℕ → Result Kind Refusal → Type 0 where
+  names : (κs : Lfts 0) (a : _) (r : Result Kind Refusal) (e : _) → kind_named.Post κs a r e → Names a.0 r
 
-pub named : {label : ℕ} {r : Named} → Names label r → r ≡ named_of label
+pub named : {label : ℕ} {r : Result Kind Refusal} → Names label r → r ≡ named_of label
 named (names κs a r e p) = p
 
 pub names_any : (κs : Lfts 0) (label : ℕ) → Names label (named_of label)
@@ -175,10 +171,10 @@ spelled (spells κs a r e p) = p
 pub spells_any : (κs : Lfts 1) (number : ℕ) (buffer : List ℕ) → Spells number buffer (text_refusal number buffer) (text_after number buffer)
 spells_any κs number buffer = spells κs (number, (lent_out buffer, tt)) (text_refusal number buffer) (number, (lent_out (text_after number buffer), tt)) (refl, refl)
 
-pub data Numbers : List ℕ → Tracked → Type 0 where
-  numbers : (κs : Lfts 1) (a : _) (r : Tracked) (e : _) → track-number.Post κs a r e → Numbers a.0.now r
+pub data Numbers : List ℕ → Result ℕ Refusal → Type 0 where
+  numbers : (κs : Lfts 1) (a : _) (r : Result ℕ Refusal) (e : _) → track-number.Post κs a r e → Numbers a.0.now r
 
-pub numbered_as : {text : List ℕ} {r : Tracked} → Numbers text r → r ≡ tracked_of text
+pub numbered_as : {text : List ℕ} {r : Result ℕ Refusal} → Numbers text r → r ≡ tracked_of text
 numbered_as (numbers κs a r e p) = p
 
 pub numbers_any : (κs : Lfts 1) (text : List ℕ) → Numbers text (tracked_of text)

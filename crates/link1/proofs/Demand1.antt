@@ -10,6 +10,7 @@ use mathlib.Core.List.{List}
 use Prim.Native.Nat.{ℕ}
 use lib.IntN.{ℤ}
 use contract.Lifetimes.{Lfts}
+use Rattle.std.specs.Prelude.{Result, Ok, Err}
 use Rattle.bits.specs.Tests.{pick}
 use Rattle.refusal.specs.Table.{of_table}
 use Rattle.refusal.specs.declared.Refusal.{Refusal}
@@ -20,25 +21,15 @@ use Rattle.line.specs.Sending.{levels_after, image_bits, send_checks, send_refus
 use Rattle.line.specs.declared.Receiver.{Receiver}
 use Rattle.line.specs.declared.Heard.{Heard}
 use Rattle.capture.specs.Search as searching
-use Rattle.capture.specs.declared.Found.{Found}
-use Rattle.capture.specs.declared.Found.TheVariants as F
 use Rattle.units.specs.Heights as heights
-use Rattle.units.specs.declared.Height.{Height}
-use Rattle.units.specs.declared.Height.TheVariants as H
 use Rattle.kind.specs.Layouts.{all_kinds}
 use Rattle.kind.specs.Labels as labels
-use Rattle.kind.specs.declared.Named.{Named}
-use Rattle.kind.specs.declared.Named.TheVariants as N
 use Rattle.track.specs.TrackText as texts
-use Rattle.track.specs.declared.Tracked.{Tracked}
-use Rattle.track.specs.declared.Tracked.TheVariants as T
 use Rattle.words.specs.Words.{image_of}
 use Rattle.message.specs.Codec.{message_word}
 use Rattle.message.specs.declared.Message.{Message}
 use Rattle.pair.specs.Opening as opening
 use Rattle.pair.specs.Closing.{close_checks, close_refusal, close_image}
-use Rattle.pair.specs.declared.Opened.{Opened}
-use Rattle.pair.specs.declared.Opened.TheVariants as O
 use Rattle.relay.specs.Relay.{first_message, second_message, relay_checks, relay_refusal, image_shifted, relay_image}
 use Rattle.bits.proofs.TestLaws.{zero_one}
 use Rattle.refusal.proofs.CheckLaws.{first_of_table, Refuses, buffer_left, refusal_told}
@@ -161,37 +152,37 @@ track_text_refuses {number} {buffer} s = buffer_left (texts.text_checks number b
 abbrev pub TellsRefusal : {A : Type 0} → (A → Refusal) → (Refusal → A) → A → Type 0
 TellsRefusal refusalOf refused r = (of_table (refusalOf r) ≡ true) × ((x : Refusal) → r ≡ refused x → Refuses x)
 
-pub open_refuses : {image : List ℕ} {r : Opened} → Opens image r → TellsRefusal opening.refusal_in_opened O.Refused r
+pub open_refuses : {image : List ℕ} {r : Opened} → Opens image r → TellsRefusal opening.refusal_in_opened Err r
 unfolding opening.open_of opening.open_refusal
-open_refuses {image} o = refusal_told (opening.open_checks image) refl (open_bits image) O.Refused opening.refusal_in_opened
-    (O.Pair (opening.word_message (opening.first_word image)) (opening.word_message (opening.second_word image))) (λ x. refl) refl (λ x z. zero_one (cc)) (opened o)
+open_refuses {image} o = refusal_told (opening.open_checks image) refl (open_bits image) Err opening.refusal_in_opened
+    (Ok (opening.word_message (opening.first_word image), opening.word_message (opening.second_word image))) (λ x. refl) refl (λ x z. zero_one (cc)) (opened o)
 
-pub kind_named_refuses : {label : ℕ} {r : Named} → Names label r → TellsRefusal labels.refusal_in_named N.Refused r
+pub kind_named_refuses : {label : ℕ} {r : Result Kind Refusal} → Names label r → TellsRefusal labels.refusal_in_named Err r
 unfolding labels.named_of labels.name_refusal
 kind_named_refuses {label} n =
-    refusal_told (labels.name_checks label) refl tt N.Refused labels.refusal_in_named (N.Kind (labels.kind_named (labels.kind_from all_kinds label))) (λ x. refl) refl (λ x z. zero_one (cc)) (named n)
+    refusal_told (labels.name_checks label) refl tt Err labels.refusal_in_named (Ok (labels.kind_named (labels.kind_from all_kinds label))) (λ x. refl) refl (λ x z. zero_one (cc)) (named n)
 
-pub search_refuses : {capture : List ℕ} {start : ℕ} {r : Found} → Searches capture start r → TellsRefusal searching.refusal_in_found F.Refused r
+pub search_refuses : {capture : List ℕ} {start : ℕ} {r : Result ℕ Refusal} → Searches capture start r → TellsRefusal searching.refusal_in_found Err r
 unfolding searching.search_of searching.search_refusal
 search_refuses {capture} {start} f =
-    refusal_told (searching.search_checks capture start) refl tt F.Refused searching.refusal_in_found (F.At (searching.least_from capture start)) (λ x. refl) refl (λ x z. zero_one (cc)) (searched f)
+    refusal_told (searching.search_checks capture start) refl tt Err searching.refusal_in_found (Ok (searching.least_from capture start)) (λ x. refl) refl (λ x z. zero_one (cc)) (searched f)
 
-pub track_number_refuses : {text : List ℕ} {r : Tracked} → Numbers text r → TellsRefusal texts.refusal_in_tracked T.Refused r
+pub track_number_refuses : {text : List ℕ} {r : Result ℕ Refusal} → Numbers text r → TellsRefusal texts.refusal_in_tracked Err r
 unfolding texts.tracked_of texts.track_refusal
-track_number_refuses {text} t = refusal_told (texts.track_checks text) refl tt T.Refused texts.refusal_in_tracked (T.Number (texts.text_number text)) (λ x. refl) refl (λ x z. zero_one (cc)) (numbered_as t)
+track_number_refuses {text} t = refusal_told (texts.track_checks text) refl tt Err texts.refusal_in_tracked (Ok (texts.text_number text)) (λ x. refl) refl (λ x z. zero_one (cc)) (numbered_as t)
 
-pub altitude_refuses : {feet : ℤ} {r : Height} → Climbs feet r → TellsRefusal heights.refusal_in_height H.Refused r
+pub altitude_refuses : {feet : ℤ} {r : Result AltSteps Refusal} → Climbs feet r → TellsRefusal heights.refusal_in_height Err r
 unfolding heights.height_of heights.height_refusal
-altitude_refuses {feet} h = refusal_told (heights.height_checks feet) refl tt H.Refused heights.refusal_in_height (H.At (record { 0 = heights.altitude_of feet })) (λ x. refl) refl (λ x z. zero_one (cc)) (climbed h)
+altitude_refuses {feet} h = refusal_told (heights.height_checks feet) refl tt Err heights.refusal_in_height (Ok (record { 0 = heights.altitude_of feet })) (λ x. refl) refl (λ x z. zero_one (cc)) (climbed h)
 
 -- the value of a refusal is zero
-pub no_position : (x : Refusal) → searching.position_found (F.Refused x) ≡ 0
+pub no_position : (x : Refusal) → searching.position_found (Err x) ≡ 0
 no_position x = refl
 
-pub no_number : (x : Refusal) → texts.number_in (T.Refused x) ≡ 0
+pub no_number : (x : Refusal) → texts.number_in (Err x) ≡ 0
 no_number x = refl
 
-pub no_altitude : (x : Refusal) → heights.altitude_in (H.Refused x) ≡ 0
+pub no_altitude : (x : Refusal) → heights.altitude_in (Err x) ≡ 0
 no_altitude x = refl
 
 -- ---- a call that hands back state in either case: a level that is refused leaves the receiver as it was, with no frame and sixteen zero

@@ -13,6 +13,7 @@ use lib.Dec.{leb}
 use lib.IntN.{ℤ, pos, ◌+ℤ◌, ◌*ℤ◌}
 use lib.ListN.{length, get_or}
 use lib.Signed.{le_z}
+use Rattle.std.specs.Prelude.{Result, Ok, Err}
 use Rattle.bits.specs.Tests.{both}
 use Rattle.bits.specs.Numbers.{bit, sum_of}
 use Rattle.bits.specs.Octets.{AreOctets, bit_at}
@@ -24,30 +25,20 @@ use Rattle.refusal.specs.declared.Refusal.{Refusal}
 use Rattle.frame.specs.Frame.{good_frame, frame_at}
 use Rattle.words.specs.Words.{place_of}
 use Rattle.sieve.specs.Capture.{good_at}
-use Rattle.capture.specs.declared.Found.{Found}
-use Rattle.capture.specs.declared.Found.TheVariants as F
 use Rattle.units.specs.Nearest.{Nearest}
 use Rattle.units.specs.Offsets.{are_offsets, sum_z}
 use Rattle.units.specs.Steps.{is_step}
-use Rattle.units.specs.declared.Height.{Height}
-use Rattle.units.specs.declared.Height.TheVariants as H
 use Rattle.kind.specs.Layouts.{all_kinds, label_of, layout_of}
 use Rattle.kind.specs.declared.Kind.{Kind}
 use Rattle.kind.specs.declared.Kind.TheVariants.{Blank, S0, S3, S4, S4Plus, S5, S6, S8, S8Plus, S9}
-use Rattle.kind.specs.declared.Named.{Named}
-use Rattle.kind.specs.declared.Named.TheVariants as N
 use Rattle.message.specs.Messages.{kind_of, parts_of}
 use Rattle.message.specs.Codec.{message_trouble}
 use Rattle.message.specs.declared.Message.{Message}
 use Rattle.track.specs.TrackText.{is_text, text_checks, text_refusal, tracked_of}
-use Rattle.track.specs.declared.Tracked.{Tracked}
-use Rattle.track.specs.declared.Tracked.TheVariants as T
 use Rattle.pair.specs.Pairs.{is_in, pair_of}
 use Rattle.pair.specs.Opening.{is_labelled, word_kind, word_trouble, word_message, first_word, second_word, open_of}
 use Rattle.pair.specs.Closing.{close_checks, close_refusal}
 use Rattle.pair.specs.ZeroedImage.{zeroed_image, Clear}
-use Rattle.pair.specs.declared.Opened.{Opened}
-use Rattle.pair.specs.declared.Opened.TheVariants.{Pair, Refused}
 use Rattle.position.specs.Positions.{position_of, is_somewhere, x_of, y_of, placed_at}
 use Rattle.relay.specs.Relay.{first_message, second_message, relay_image}
 use Rattle.bits.proofs.TestLaws.{both_true}
@@ -104,7 +95,7 @@ label_names = kinds.kind_exactly
 
 -- an image opens exactly if it is a good frame, both labels are known, the pair is in the table and nothing is wrong inside
 pub opens_exactly : {image : List ℕ} {o : Opened} → Opens image o
-    → ((first : Message) × (second : Message) × (o ≡ Pair first second))
+    → ((first : Message) × (second : Message) × (o ≡ Ok (first, second)))
     ↔ ((length image ≡ 16)
     × (good_frame (bit_at image) ≡ true)
     × (is_labelled (first_word image) ≡ true)
@@ -151,16 +142,16 @@ closes_exactly {first} {second} {buffer} c = (
 -- ---- there and back
 
 -- an accepted frame closes to its zeroed image: the same bits with absent modes' codes zeroed and the check bits worked anew
-pub accepted_closes : {image buffer after : List ℕ} {first second : Message} {r : Refusal} → Opens image (Pair first second) → Closes first second buffer r after
+pub accepted_closes : {image buffer after : List ℕ} {first second : Message} {r : Refusal} → Opens image (Ok (first, second)) → Closes first second buffer r after
     → length buffer ≡ 16 → (r ≡ numbered 0) × (after ≡ zeroed_image image)
 accepted_closes {image} {buffer} {after} {first} {second} o c sixteen =
     let p = pairs.opened_closes first second image (sym (opened o)) buffer sixteen in ((closed c).0 ∙ p.0, (closed c).1 ∙ p.1)
 
 -- opening and closing that again changes nothing
-pub zeroed_opens : {image : List ℕ} {first second : Message} {o : Opened} → Opens image (Pair first second) → Opens (zeroed_image image) o → o ≡ Pair first second
+pub zeroed_opens : {image : List ℕ} {first second : Message} {o : Opened} → Opens image (Ok (first, second)) → Opens (zeroed_image image) o → o ≡ Ok (first, second)
 zeroed_opens {image} {first} {second} o p = opened p ∙ pairs.zeroed_opens first second image (sym (opened o))
 
-pub zeroed_closes : (image : List ℕ) {buffer after : List ℕ} {first second : Message} {r : Refusal} → Opens (zeroed_image image) (Pair first second) → Closes first second buffer r after
+pub zeroed_closes : (image : List ℕ) {buffer after : List ℕ} {first second : Message} {r : Refusal} → Opens (zeroed_image image) (Ok (first, second)) → Closes first second buffer r after
     → length buffer ≡ 16 → (r ≡ numbered 0) × (after ≡ zeroed_image image)
 zeroed_closes image {buffer} {after} {first} {second} o c sixteen =
     let p = pairs.zeroed_closes first second image (sym (opened o)) buffer sixteen in ((closed c).0 ∙ p.0, (closed c).1 ∙ p.1)
@@ -169,7 +160,7 @@ pub zeroed_once : (image : List ℕ) → zeroed_image (zeroed_image image) ≡ z
 zeroed_once = zeroed.zeroed_once
 
 -- an accepted frame closes to the same 128 bits exactly if no digit is left in the code of an absent mode
-pub same_bits : {image buffer after : List ℕ} {first second : Message} {r : Refusal} → AreOctets image → Opens image (Pair first second) → Closes first second buffer r after
+pub same_bits : {image buffer after : List ℕ} {first second : Message} {r : Refusal} → AreOctets image → Opens image (Ok (first, second)) → Closes first second buffer r after
     → length buffer ≡ 16 → (after ≡ image) ↔ Clear image
 same_bits {image} {buffer} {after} {first} {second} octets o c sixteen = (
   λ e. zeroed.own_clear image (sym (accepted_closes o c sixteen).1 ∙ e),
@@ -177,7 +168,7 @@ same_bits {image} {buffer} {after} {first} {second} octets o c sixteen = (
 )
 
 -- a legal pair opens again unchanged
-pub closed_opens : {buffer after : List ℕ} {first second : Message} {o : Opened} → Closes first second buffer (numbered 0) after → Opens after o → o ≡ Pair first second
+pub closed_opens : {buffer after : List ℕ} {first second : Message} {o : Opened} → Closes first second buffer (numbered 0) after → Opens after o → o ≡ Ok (first, second)
 closed_opens {buffer} {after} {first} {second} c o = opened o ∙ ap open_of (closed c).1 ∙ pairs.closed_opens first second buffer (sym (closed c).0)
 
 -- ---- which pairs may share a frame (01; S.9: 02, item 1)
@@ -185,7 +176,7 @@ closed_opens {buffer} {after} {first} {second} c o = opened o ∙ ap open_of (cl
 -- 7 is told exactly for pairs that are not in the table: on opening where the image is a good frame and both labels are known, on closing
 -- where the buffer has sixteen octets
 pub pair_refused : {image : List ℕ} {o : Opened} → Opens image o → length image ≡ 16 → good_frame (bit_at image) ≡ true → is_labelled (first_word image) ≡ true → is_labelled (second_word image) ≡ true
-    → (o ≡ Refused (numbered 7)) ↔ (pair_of (word_kind (first_word image)) (word_kind (second_word image)) ≡ false)
+    → (o ≡ Err (numbered 7)) ↔ (pair_of (word_kind (first_word image)) (word_kind (second_word image)) ≡ false)
 pair_refused {image} x size good one two =
     (λ e. (pairs.seven_opened image size good one two).0 (sym (opened x) ∙ e), λ e. opened x ∙ (pairs.seven_opened image size good one two).1 e)
 
@@ -242,25 +233,25 @@ lies_whole capture p = (
 )
 
 -- the answer is the least position from the start on at which a good frame lies whole
-pub search_finds : {capture : List ℕ} {start : ℕ} {f : Found} → Searches capture start f → (p : ℕ)
-    → (f ≡ F.At p)
+pub search_finds : {capture : List ℕ} {start : ℕ} {f : Result ℕ Refusal} → Searches capture start f → (p : ℕ)
+    → (f ≡ Ok p)
     ↔ ((length capture ≤ 65536)
     × (start ≤ 8 * length capture)
     × ((start ≤ p) × (good_at capture p ≡ true) × ((q : ℕ) → start ≤ q → q < p → good_at capture q ≡ false)))
 search_finds {capture} {start} s p = (λ e. (search.found_exactly capture start p).0 (sym (searched s) ∙ e), λ w. searched s ∙ (search.found_exactly capture start p).1 w)
 
 -- 2 for a capture over 65,536 octets
-pub search_too_long : {capture : List ℕ} {start : ℕ} {f : Found} → Searches capture start f → (f ≡ F.Refused (numbered 2)) ↔ (65536 < length capture)
+pub search_too_long : {capture : List ℕ} {start : ℕ} {f : Result ℕ Refusal} → Searches capture start f → (f ≡ Err (numbered 2)) ↔ (65536 < length capture)
 search_too_long {capture} {start} s = (λ e. (search.long_exactly capture start).0 (sym (searched s) ∙ e), λ w. searched s ∙ (search.long_exactly capture start).1 w)
 
 -- 9 for a start past the capture's end
-pub search_past_end : {capture : List ℕ} {start : ℕ} {f : Found} → Searches capture start f
-    → (f ≡ F.Refused (numbered 9)) ↔ ((length capture ≤ 65536) × (8 * length capture < start))
+pub search_past_end : {capture : List ℕ} {start : ℕ} {f : Result ℕ Refusal} → Searches capture start f
+    → (f ≡ Err (numbered 9)) ↔ ((length capture ≤ 65536) × (8 * length capture < start))
 search_past_end {capture} {start} s = (λ e. (search.past_exactly capture start).0 (sym (searched s) ∙ e), λ w. searched s ∙ (search.past_exactly capture start).1 w)
 
 -- 10 where no good frame lies at or after the start
-pub search_none : {capture : List ℕ} {start : ℕ} {f : Found} → Searches capture start f
-    → (f ≡ F.Refused (numbered 10)) ↔ ((length capture ≤ 65536) × (start ≤ 8 * length capture) × ((p : ℕ) → start ≤ p → good_at capture p ≡ false))
+pub search_none : {capture : List ℕ} {start : ℕ} {f : Result ℕ Refusal} → Searches capture start f
+    → (f ≡ Err (numbered 10)) ↔ ((length capture ≤ 65536) × (start ≤ 8 * length capture) × ((p : ℕ) → start ≤ p → good_at capture p ≡ false))
 search_none {capture} {start} s = (λ e. (search.none_exactly capture start).0 (sym (searched s) ∙ e), λ w. searched s ∙ (search.none_exactly capture start).1 w)
 
 -- ---- the shift, which is the relay's (02, item 6)
@@ -276,7 +267,7 @@ InRange m xs ys =
 -- 6,144,000, and every nearest step is in range
 pub relay_exactly : {image : List ℕ} {xs ys : List ℤ} {buffer after : List ℕ} {r : Refusal} → Relays image xs ys buffer r after
     → (r ≡ numbered 0)
-    ↔ ((open_of image ≡ Pair (first_message image) (second_message image))
+    ↔ ((open_of image ≡ Ok (first_message image, second_message image))
     × (length buffer ≡ 16)
     × (length xs ≤ 8)
     × (length ys ≤ 8)
@@ -298,12 +289,12 @@ Shifts m xs ys n =
 
 -- what is written opens as the pair that came, both messages so shifted
 pub relay_nearest : {image : List ℕ} {xs ys : List ℤ} {buffer after : List ℕ} {first second : Message} {o : Opened}
-    → Opens image (Pair first second) → Relays image xs ys buffer (numbered 0) after → Opens after o
-    → (m : Message) × (n : Message) × (o ≡ Pair m n) × Shifts first xs ys m × Shifts second xs ys n
+    → Opens image (Ok (first, second)) → Relays image xs ys buffer (numbered 0) after → Opens after o
+    → (m : Message) × (n : Message) × (o ≡ Ok (m, n)) × Shifts first xs ys m × Shifts second xs ys n
 relay_nearest {image} {xs} {ys} {buffer} {after} {first} {second} {o} came x goes =
     let c = relays.relay_nearest image xs ys buffer (sym (relayed x).0) in
     let is : relay_image image xs ys buffer ≡ after = sym (relayed x).1 in
-    let pair : Pair (first_message image) (second_message image) ≡ Pair first second = sym c.came ∙ sym (opened came) in
+    let pair : Ok (first_message image, second_message image) ≡ Ok (first, second) = sym c.came ∙ sym (opened came) in
     let one : first_message image ≡ first = cc in
     let two : second_message image ≡ second = cc in
     let a = c.one in
@@ -322,28 +313,28 @@ nearest_only = nearest.nearest_only
 -- ---- altitude
 
 -- 375 feet and below give 1
-pub altitude_low : {feet : ℤ} {h : Height} → Climbs feet h → le_z feet (pos 375) ≡ true → h ≡ H.At (record { 0 = 1 })
+pub altitude_low : {feet : ℤ} {h : Result AltSteps Refusal} → Climbs feet h → le_z feet (pos 375) ≡ true → h ≡ Ok (record { 0 = 1 })
 altitude_low {feet} c p = climbed c ∙ nearest.height_low feet p
 
 -- otherwise the nearest multiple of 375, which is given exactly if it is not over 511; a result over 511 is refused 9
-pub altitude_near : {feet : ℤ} {h : Height} → Climbs feet h → le_z feet (pos 375) ≡ false → (n : ℕ) → Nearest 375 feet (pos n)
-    → ((h ≡ H.At (record { 0 = n })) ↔ (n ≤ 511)) × ((h ≡ H.Refused (numbered 9)) ↔ (511 < n))
+pub altitude_near : {feet : ℤ} {h : Result AltSteps Refusal} → Climbs feet h → le_z feet (pos 375) ≡ false → (n : ℕ) → Nearest 375 feet (pos n)
+    → ((h ≡ Ok (record { 0 = n })) ↔ (n ≤ 511)) × ((h ≡ Err (numbered 9)) ↔ (511 < n))
 altitude_near {feet} c p n near = (
   (λ e. (nearest.height_exactly feet p n near).0 (sym (climbed c) ∙ e), λ w. climbed c ∙ (nearest.height_exactly feet p n near).1 w),
   (λ e. (nearest.too_high_exactly feet p n near).0 (sym (climbed c) ∙ e), λ w. climbed c ∙ (nearest.too_high_exactly feet p n near).1 w),
 )
 
 -- the conversion never gives 0, and nothing over 511
-pub altitude_range : {feet : ℤ} {n : ℕ} → Climbs feet (H.At (record { 0 = n })) → (1 ≤ n) × (n ≤ 511)
+pub altitude_range : {feet : ℤ} {n : ℕ} → Climbs feet (Ok (record { 0 = n })) → (1 ≤ n) × (n ≤ 511)
 altitude_range {feet} {n} c = nearest.height_range feet (record { 0 = n }) (sym (climbed c))
 
 -- ---- labels
 
 -- a label names a kind exactly if it is that kind's, and is refused 6 exactly if it is no kind's
-pub label_named : {label : ℕ} {n : Named} → Names label n → (k : Kind) → (n ≡ N.Kind k) ↔ (label ≡ label_of k)
+pub label_named : {label : ℕ} {n : Result Kind Refusal} → Names label n → (k : Kind) → (n ≡ Ok k) ↔ (label ≡ label_of k)
 label_named {label} x k = (λ e. (labels.names_exactly label k).0 (sym (named x) ∙ e), λ w. named x ∙ (labels.names_exactly label k).1 w)
 
-pub label_unknown : {label : ℕ} {n : Named} → Names label n → (n ≡ N.Refused (numbered 6)) ↔ ((k : Kind) → label ≡ label_of k → ⊥)
+pub label_unknown : {label : ℕ} {n : Result Kind Refusal} → Names label n → (n ≡ Err (numbered 6)) ↔ ((k : Kind) → label ≡ label_of k → ⊥)
 label_unknown {label} x = (λ e. (labels.unknown_exactly label).0 (sym (named x) ∙ e), λ w. named x ∙ (labels.unknown_exactly label).1 w)
 
 -- ---- track number text
@@ -357,17 +348,17 @@ text_exactly {number} {buffer} s = (
 )
 
 -- a text is read exactly if it has five characters, two letters of A E G H J K L M and three digits 0 to 7 (`is_text`)
-pub number_exactly : {text : List ℕ} {t : Tracked} → Numbers text t → ((n : ℕ) × (t ≡ T.Number n)) ↔ ((length text ≡ 5) × (is_text text ≡ true))
+pub number_exactly : {text : List ℕ} {t : Result ℕ Refusal} → Numbers text t → ((n : ℕ) × (t ≡ Ok n)) ↔ ((length text ≡ 5) × (is_text text ≡ true))
 number_exactly {text} x = (
   λ w. (texts.reads_exactly text).0 (w.0, sym (numbered_as x) ∙ w.1),
   λ w. let p = (texts.reads_exactly text).1 w in (p.0, numbered_as x ∙ p.1),
 )
 
 -- number to text to number, and text to number to text
-pub text_reads : {number : ℕ} {buffer after : List ℕ} {t : Tracked} → Spells number buffer (numbered 0) after → Numbers after t → t ≡ T.Number number
+pub text_reads : {number : ℕ} {buffer after : List ℕ} {t : Result ℕ Refusal} → Spells number buffer (numbered 0) after → Numbers after t → t ≡ Ok number
 text_reads {number} {buffer} s x = numbered_as x ∙ ap tracked_of (spelled s).1 ∙ texts.written_reads number buffer (sym (spelled s).0)
 
-pub number_writes : {text buffer after : List ℕ} {number : ℕ} {r : Refusal} → Numbers text (T.Number number) → Spells number buffer r after → length buffer ≡ 5
+pub number_writes : {text buffer after : List ℕ} {number : ℕ} {r : Refusal} → Numbers text (Ok number) → Spells number buffer r after → length buffer ≡ 5
     → (r ≡ numbered 0) × (after ≡ text)
 number_writes {text} {buffer} {after} {number} x s five =
     let p = texts.read_writes text buffer number (sym (numbered_as x)) five in ((spelled s).0 ∙ p.0, (spelled s).1 ∙ p.1)

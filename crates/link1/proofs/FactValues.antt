@@ -4,7 +4,7 @@ use mathlib.Core.List.{List, [], ◌∷◌, ◌++◌}
 use Prim.Native.Nat.{ℕ}
 use lib.IntN.{ℤ, pos, negsuc}
 use lib.ListN.{replicate}
-use Rattle.message.specs.declared.Mode.TheVariants.{Absent, Present}
+use Rattle.std.specs.Prelude.{Some, None}
 use Rattle.message.specs.declared.Iff.{Iff}
 use Rattle.message.specs.declared.Track.{Track}
 use Rattle.message.specs.declared.Amplifying.{Amplifying}
@@ -54,14 +54,14 @@ abbrev pub track_b : Track
 track_b = track 20001 2 (pos 77) (negsuc 3999)
 
 abbrev pub iff_a : ℕ → Iff
-iff_a n = record { mode3a = Present 1234; request = n; emergency = true; validation = false; mode1 = Absent; mode2 = Present 3001 }
+iff_a n = record { mode3a = Some 1234; request = n; emergency = true; validation = false; mode1 = None; mode2 = Some 3001 }
 
 abbrev pub iff_b : Iff
-iff_b = record { mode3a = Absent; request = 2; emergency = false; validation = true; mode1 = Present 21; mode2 = Absent }
+iff_b = record { mode3a = None; request = 2; emergency = false; validation = true; mode1 = Some 21; mode2 = None }
 
 -- Mode 2 alone is present
 abbrev pub iff_c : Iff
-iff_c = record { mode3a = Absent; request = 4; emergency = true; validation = false; mode1 = Absent; mode2 = Present 3001 }
+iff_c = record { mode3a = None; request = 4; emergency = true; validation = false; mode1 = None; mode2 = Some 3001 }
 
 -- with an altitude, a strength and an X velocity
 abbrev pub amplifying_of : ℕ → ℕ → ℤ → Amplifying

@@ -9,6 +9,7 @@ use lib.Dec.{eqb, leb, ltb}
 use lib.IntN.{ℤ, neg_ℤ}
 use borrow.Author.Tests.{eqb-true, eq-eqb}
 use lib.ListN.{length, get_or, replicate, set}
+use Rattle.std.specs.Prelude.{Ok, Err, Some, None}
 use Rattle.bits.specs.Octets.{AreOctets, bit_at, octets_of}
 use Rattle.bits.specs.Numbers.{tab, sum_of}
 use Rattle.bits.specs.Tests.{pick, both}
@@ -40,10 +41,7 @@ use Rattle.octets.specs.declared.OctetReceiver.{OctetReceiver}
 use Rattle.octets.specs.declared.HeardOctet.{HeardOctet}
 use Rattle.pair.specs.Opening.{word_kind, first_word, second_word}
 use Rattle.pair.specs.ZeroedImage.{zeroed_image}
-use Rattle.pair.specs.declared.Opened.{Opened}
-use Rattle.pair.specs.declared.Opened.TheVariants.{Pair, Refused}
 use Rattle.position.specs.Positions.{position_of, is_somewhere, x_of, y_of}
-use Rattle.position.specs.declared.Position.TheVariants.{At, Nowhere}
 use Rattle.relay.specs.Relay.{first_message, second_message, relay_refusal, relay_image}
 use Rattle.frame.proofs.FrameLaws.{good_ext, verdict_by_lem}
 use Rattle.line.proofs.Demand3.{ends_in}
@@ -65,15 +63,15 @@ use Rattle.link1.proofs.Calls.{Judges, judged, Opens, opened, Closes, closed, Re
 -- ---- item 1: an area's corner has a position, and is shifted as a track is; no other kind has one
 
 pub positions : (t : Track) (c : Corner)
-    → (position_of (m.S4 t) ≡ At t.x t.y)
-    × (position_of (m.S4Plus t) ≡ At t.x t.y)
-    × (position_of (m.S8 t) ≡ At t.x t.y)
-    × (position_of (m.S8Plus t) ≡ At t.x t.y)
-    × (position_of (m.S9 c) ≡ At c.x c.y)
+    → (position_of (m.S4 t) ≡ Some (record { x = t.x; y = t.y }))
+    × (position_of (m.S4Plus t) ≡ Some (record { x = t.x; y = t.y }))
+    × (position_of (m.S8 t) ≡ Some (record { x = t.x; y = t.y }))
+    × (position_of (m.S8Plus t) ≡ Some (record { x = t.x; y = t.y }))
+    × (position_of (m.S9 c) ≡ Some (record { x = c.x; y = c.y }))
 positions t c = (refl, refl, refl, refl, refl)
 
 pub no_positions : (i : Iff) (a : Amplifying) (s : Strobe)
-    → (position_of m.Blank ≡ Nowhere) × (position_of m.S0 ≡ Nowhere) × (position_of (m.S3 i) ≡ Nowhere) × (position_of (m.S5 a) ≡ Nowhere) × (position_of (m.S6 s) ≡ Nowhere)
+    → (position_of m.Blank ≡ None) × (position_of m.S0 ≡ None) × (position_of (m.S3 i) ≡ None) × (position_of (m.S5 a) ≡ None) × (position_of (m.S6 s) ≡ None)
 no_positions i a s = (refl, refl, refl, refl, refl)
 
 -- ---- item 2: 'ignore an absent mode's code bits': a good frame opens as its zeroed image does, refused ones too
@@ -92,7 +90,7 @@ IsLowest P Q place c b =
     ⊎ (((d : Cause) (e : ℕ) → P d e → ⊥) × (place ≡ 2) × (Q c b × ((d : Cause) (e : ℕ) → Q d e → b ≤ e)))
 
 -- opening: troubles of the two words, as messages of the kinds that their labels name, from bit 7 on
-pub open_lowest : {image : List ℕ} (place : ℕ) (c : Cause) (b : ℕ) → Opens image (Refused (inside_at place c b))
+pub open_lowest : {image : List ℕ} (place : ℕ) (c : Cause) (b : ℕ) → Opens image (Err (inside_at place c b))
     → IsLowest (Begins 6 (layout_of (word_kind (first_word image))) (first_word image)) (Begins 6 (layout_of (word_kind (second_word image))) (second_word image)) place c b
 open_lowest {image} place c b o = first.open_first image place c b (sym (opened o))
 
@@ -103,7 +101,7 @@ close_lowest {one} {two} {buffer} place c b x = first.close_first one two buffer
 
 -- 'every caller passes it up': what a relay tells so, opening tells
 pub relay_passes_up : {image : List ℕ} {xs ys : List ℤ} {buffer after : List ℕ} {o : Opened} (place : ℕ) (c : Cause) (b : ℕ)
-    → Relays image xs ys buffer (inside_at place c b) after → Opens image o → o ≡ Refused (inside_at place c b)
+    → Relays image xs ys buffer (inside_at place c b) after → Opens image o → o ≡ Err (inside_at place c b)
 relay_passes_up {image} {xs} {ys} {buffer} place c b x o = opened o ∙ relay.relay_first image xs ys buffer place c b (sym (relayed x).0)
 
 -- ---- item 5: the receiver that is fed octets
@@ -144,7 +142,7 @@ equality {ls} {octets} {s} {t} {l} {o} {h} {g} f x u y small j level least most 
 -- ---- item 6: one relay step
 
 -- empty lists: an image that opens is relayed to its zeroed image
-pub nothing_moves : {image buffer after : List ℕ} {one two : Message} {r : Refusal} → Opens image (Pair one two) → Relays image [] [] buffer r after → length buffer ≡ 16
+pub nothing_moves : {image buffer after : List ℕ} {one two : Message} {r : Refusal} → Opens image (Ok (one, two)) → Relays image [] [] buffer r after → length buffer ≡ 16
     → (r ≡ numbered 0) × (after ≡ zeroed_image image)
 nothing_moves {image} {buffer} {after} {one} {two} o x long =
     let p = relay.nothing_moves one two image (sym (opened o)) buffer long in ((relayed x).0 ∙ p.0, (relayed x).1 ∙ p.1)

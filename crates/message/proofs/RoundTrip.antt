@@ -10,6 +10,7 @@ use borrow.Author.Tests.{eq-eqb, eqb-true, lt-ltb}
 use lib.Dec.{T, eqb, eqb→eq}
 use lib.Pow.{pow_pos}
 use lib.Pow.{split as split-pow}
+use Rattle.std.specs.Prelude.{Option, Some, None}
 use Rattle.bits.specs.Tests.{both}
 use Rattle.bits.specs.Numbers.{num_of, field_of}
 use Rattle.layout.specs.Layout.{Field, pattern, width_of, Values, split, join}
@@ -22,12 +23,9 @@ use Rattle.message.specs.Codec.{content_trouble, message_in, message_trouble, me
 use Rattle.message.specs.ZeroedMessage.{is_iff, zeroed_bit}
 use Rattle.kind.specs.declared.Kind.{Kind}
 use Rattle.kind.specs.declared.Kind.TheVariants.{Blank, S0, S3, S4, S4Plus, S5, S6, S8, S8Plus, S9}
-use Rattle.message.specs.declared.Mode.{Mode}
-use Rattle.message.specs.declared.Mode.TheVariants.{Absent, Present}
 use Rattle.message.specs.declared.Iff.{Iff}
 use Rattle.message.specs.declared.Message.{Message}
 use Rattle.message.specs.declared.Message.TheVariants as m
-use Rattle.kind.specs.declared.Labelled.TheVariants.{Known}
 use Rattle.bits.proofs.TestLaws.{clash, to_t, from_t, both_true, both_right}
 use Rattle.bits.proofs.NumberLaws.{num_ext}
 use Rattle.layout.proofs.LayoutLaws.{allows, nothing_is, allowed_none, allowed_more, fits_more, fits_anywhere, join_split, fits_split, split_join, allowed_join, first_join}
@@ -37,9 +35,9 @@ use Rattle.message.proofs.ZeroedLaws.{word_from, other_stays, zeroed_lt, zeroed_
 
 -- ---- modes
 
-mode_parts : (o : Mode) → mode_of (presence_of o) (code_of o) ≡ o
-mode_parts Absent = refl
-mode_parts (Present n) = refl
+mode_parts : (o : Option ℕ) → mode_of (presence_of o) (code_of o) ≡ o
+mode_parts None = refl
+mode_parts (Some n) = refl
 
 iff_from_parts : (x : Iff) → iff_from (iff_parts x) ≡ x
 iff_from_parts x = λ i. record {
@@ -105,7 +103,7 @@ kind_made S9 vs = refl
 -- ---- labels
 
 -- a word of a kind is as the whole layout has it if the label is the kind's and nothing is wrong above it
-whole : (k : Kind) (w : ℕ) → labelled_of w ≡ Known k → content_trouble k w ≡ nothing → T (allowed 0 (whole_of k) w)
+whole : (k : Kind) (w : ℕ) → labelled_of w ≡ Some k → content_trouble k w ≡ nothing → T (allowed 0 (whole_of k) w)
 whole k w l g =
     let label : w / 1 % 64 ≡ label_of k = ap (λ (n : ℕ). n % 64) (div-one w) ∙ label_from all_kinds (w % 64) k l in
     to_t (allowed_more 0 (pattern 6 (label_of k)) (layout_of k) w ∙ ap₂ both (eq-eqb (w / 1 % 64) (label_of k) label) (ap is_nothing g))
@@ -135,7 +133,7 @@ module _ (b : ℕ → ℕ) (bits : (i : ℕ) → b i < 2) where
   abbrev IsWritten : Kind → Type 0
   IsWritten k = content_trouble k (word_from b) ≡ nothing → Writes (message_in k (word_from b)) (word_from (zeroed_bit b))
 
-  other_written : is_iff b ≡ false → (k : Kind) → labelled_of (word_from b) ≡ Known k → IsWritten k
+  other_written : is_iff b ≡ false → (k : Kind) → labelled_of (word_from b) ≡ Some k → IsWritten k
   other_written e k l g =
       let w = word_from b in
       let label : label_of k ≡ num_of (λ i. b (i + 1)) 6 = sym (label_from all_kinds (w % 64) k l) ∙ label_is b bits in
@@ -146,21 +144,21 @@ module _ (b : ℕ → ℕ) (bits : (i : ℕ) → b i < 2) where
   iff_written : is_iff b ≡ true → IsWritten S3
   iff_written e g =
       let w = word_from (zeroed_bit b) in
-      let label : labelled_of w ≡ Known S3 = ap (kind_from all_kinds) (label_is (zeroed_bit b) (zeroed_lt b bits) ∙ eqb-true _ _ (zeroed_iff b ∙ e)) in
+      let label : labelled_of w ≡ Some S3 = ap (kind_from all_kinds) (label_is (zeroed_bit b) (zeroed_lt b bits) ∙ eqb-true _ _ (zeroed_iff b ∙ e)) in
       writes_iff (split 6 iff_layout (word_from b)) w
       (subst (λ (vs : Values iff_layout). WritesAs S3 vs w) (iff_split b bits e) (writes_split S3 w (whole S3 w label (iff_trouble b bits ∙ g))))
 
-  written : (k : Kind) → labelled_of (word_from b) ≡ Known k → IsWritten k
+  written : (k : Kind) → labelled_of (word_from b) ≡ Some k → IsWritten k
   written k l = go (is_iff b) refl
     where
       go : (t : Bool) → is_iff b ≡ t → IsWritten k
       go false e = other_written e k l
       go true e =
-          let named : Known S3 ≡ Known k = sym (ap (kind_from all_kinds) (label_is b bits ∙ eqb-true _ _ e)) ∙ l in
+          let named : Some S3 ≡ Some k = sym (ap (kind_from all_kinds) (label_is b bits ∙ eqb-true _ _ e)) ∙ l in
           let s3 : S3 ≡ k = cc in
           subst IsWritten s3 (iff_written e)
 
-  pub read_written : (k : Kind) (msg : Message) → labelled_of (word_from b) ≡ Known k → content_trouble k (word_from b) ≡ nothing → message_in k (word_from b) ≡ msg
+  pub read_written : (k : Kind) (msg : Message) → labelled_of (word_from b) ≡ Some k → content_trouble k (word_from b) ≡ nothing → message_in k (word_from b) ≡ msg
       → Writes msg (word_from (zeroed_bit b))
   read_written k msg l g is = subst (λ (n : Message). Writes n (word_from (zeroed_bit b))) is (written k l g)
 
@@ -189,8 +187,8 @@ module _ (b : ℕ → ℕ) (bits : (i : ℕ) → b i < 2) where
           let same : z ≡ w = num_ext _ _ 49 (λ i _. other_stays b e (i + 1)) in
           (ap labelled_of same, ap (λ (v : ℕ). content_trouble (kind_in v) v) same, ap (λ (v : ℕ). message_in (kind_in v) v) same)
       go true e =
-          let lz : labelled_of z ≡ Known S3 = ap (kind_from all_kinds) (label_is (zeroed_bit b) (zeroed_lt b bits) ∙ eqb-true _ _ (zeroed_iff b ∙ e)) in
-          let lw : labelled_of w ≡ Known S3 = ap (kind_from all_kinds) (label_is b bits ∙ eqb-true _ _ e) in
+          let lz : labelled_of z ≡ Some S3 = ap (kind_from all_kinds) (label_is (zeroed_bit b) (zeroed_lt b bits) ∙ eqb-true _ _ (zeroed_iff b ∙ e)) in
+          let lw : labelled_of w ≡ Some S3 = ap (kind_from all_kinds) (label_is b bits ∙ eqb-true _ _ e) in
           let said : message_in S3 z ≡ message_in S3 w =
           ap (λ (vs : _). m.S3 (iff_from vs)) (iff_split b bits e) ∙ ap m.S3 (iff_from_parts (iff_from (split 6 iff_layout w))) in
           (lz ∙ sym lw, rw (lz, lw) (iff_trouble b bits), rw (lz, lw) said)
@@ -214,7 +212,7 @@ allowed_lt at (f ∷ fs) w t =
 
 -- what is known of the word of a message
 pub record Read (msg : Message) (w : ℕ) : Type 0 where
-  pub label : labelled_of w ≡ Known (kind_of msg)
+  pub label : labelled_of w ≡ Some (kind_of msg)
   pub content : content_trouble (kind_of msg) w ≡ nothing
   pub message : message_in (kind_of msg) w ≡ msg
   pub short : w < 2 ^ 49

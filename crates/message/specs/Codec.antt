@@ -1,5 +1,5 @@
 -- One word to one message and back (001, Annex C, Appendix 3; 01, 'Messages'; 02, item 4).
-use Rattle.std.specs.Prelude.{List, ℕ}
+use Rattle.std.specs.Prelude.{List, ℕ, Result}
 use Rattle.layout.specs.Layout.{split, join}
 use Rattle.layout.specs.Trouble.{Checked, trouble, misfit}
 use Rattle.layout.specs.Rules.{raw_of}
@@ -10,10 +10,6 @@ use Rattle.kind.specs.Tables.{padded}
 use Rattle.kind.specs.declared.Kind.{Kind}
 use Rattle.message.specs.Messages.{made_of, kind_of, parts_of}
 use Rattle.message.specs.declared.Message.{Message}
-use Rattle.message.specs.declared.Content.{Content}
-use Rattle.message.specs.declared.Content.TheVariants as C
-use Rattle.message.specs.declared.Encoded.{Encoded}
-use Rattle.message.specs.declared.Encoded.TheVariants as E
 
 -- ---- a word as a message of a kind
 
@@ -26,8 +22,8 @@ abbrev pub message_in : Kind → ℕ → Message
 message_in k word = made_of k (split 6 (layout_of k) word)
 
 -- as message `place` of a frame: the message, or what is wrong inside it
-unfoldable pub content_of : ℕ → Kind → ℕ → Content
-content_of place k word = answered C.Refused (troubled place (content_trouble k word)) (C.Good (message_in k word))
+unfoldable pub content_of : ℕ → Kind → ℕ → Result Message Refusal
+content_of place k word = answered (troubled place (content_trouble k word)) (message_in k word)
 
 -- ---- the word of a message
 
@@ -40,8 +36,8 @@ unfoldable pub message_word : Message → ℕ
 message_word msg = join 0 (whole_of (kind_of msg)) (tt, parts_of msg)
 
 -- as message `place` of a frame: the word, or what is wrong inside the message
-unfoldable pub encoded_of : ℕ → Message → Encoded
-encoded_of place msg = answered E.Refused (troubled place (message_trouble msg)) (E.Word (message_word msg))
+unfoldable pub encoded_of : ℕ → Message → Result ℕ Refusal
+encoded_of place msg = answered (troubled place (message_trouble msg)) (message_word msg)
 
 -- ---- the numbers of a message's fields, as the code has them
 

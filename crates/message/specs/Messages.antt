@@ -1,11 +1,9 @@
 -- Messages and the values of their fields (001, Annex C, Appendix 3; 01, 'Messages'; 02, items 1 and 2).
-use Rattle.std.specs.Prelude.{Bool, true, false, ℕ}
+use Rattle.std.specs.Prelude.{Bool, true, false, ℕ, Option, Some, None}
 use Rattle.layout.specs.Layout.{Values}
 use Rattle.kind.specs.Layouts.{iff_layout, track_layout, amplifying_layout, strobe_layout, corner_layout, layout_of}
 use Rattle.kind.specs.declared.Kind.{Kind}
 use Rattle.kind.specs.declared.Kind.TheVariants.{Blank, S0, S3, S4, S4Plus, S5, S6, S8, S8Plus, S9}
-use Rattle.message.specs.declared.Mode.{Mode}
-use Rattle.message.specs.declared.Mode.TheVariants.{Absent, Present}
 use Rattle.message.specs.declared.Iff.{Iff}
 use Rattle.message.specs.declared.Track.{Track}
 use Rattle.message.specs.declared.Amplifying.{Amplifying}
@@ -16,17 +14,17 @@ use Rattle.message.specs.declared.Message.TheVariants as m
 
 -- ---- a mode is absent, or present with its code; the code of an absent mode is not looked at, and is written as zeros (02, item 2)
 
-abbrev pub mode_of : Bool → ℕ → Mode
-mode_of true n = Present n
-mode_of false n = Absent
+abbrev pub mode_of : Bool → ℕ → Option ℕ
+mode_of true n = Some n
+mode_of false n = None
 
-abbrev pub presence_of : Mode → Bool
-presence_of Absent = false
-presence_of (Present n) = true
+abbrev pub presence_of : Option ℕ → Bool
+presence_of None = false
+presence_of (Some n) = true
 
-abbrev pub code_of : Mode → ℕ
-code_of Absent = 0
-code_of (Present n) = n
+abbrev pub code_of : Option ℕ → ℕ
+code_of None = 0
+code_of (Some n) = n
 
 -- ---- the structs from the values of their fields, in the order of the layout, and back
 

@@ -6,25 +6,17 @@ ghost use Rattle.std.specs.Prelude.{◌≡◌};
 ghost use Rattle.message.specs.Messages.{kind_of};
 
 use kind::Kind;
-use refusal::Refusal;
 use units::{AltSteps, LinkSteps};
 
-// A mode of S.3: absent, or present with its code.
-#[derive(Clone, Copy)]
-pub enum Mode {
-    Absent,
-    Present(u16),
-}
-
-// S.3, the IFF/SIF message.
+// S.3, the IFF/SIF message: a mode is absent, or present with its code.
 #[derive(Clone, Copy)]
 pub struct Iff {
-    pub mode3a: Mode,
+    pub mode3a: Option<u16>,
     pub request: u8,
     pub emergency: bool,
     pub validation: bool,
-    pub mode1: Mode,
-    pub mode2: Mode,
+    pub mode1: Option<u16>,
+    pub mode2: Option<u16>,
 }
 
 // S.4, S.4+, S.8 and S.8+, the basic track data messages.
@@ -90,20 +82,6 @@ pub enum Message {
     S8(Track),
     S8Plus(Track),
     S9(Corner),
-}
-
-// What a word of a known kind holds: a message, or what is wrong inside it.
-#[derive(Clone, Copy)]
-pub enum Content {
-    Good(Message),
-    Refused(Refusal),
-}
-
-// The word of a message, or what is wrong inside it.
-#[derive(Clone, Copy)]
-pub enum Encoded {
-    Word(u64),
-    Refused(Refusal),
 }
 
 // The kind of a message.

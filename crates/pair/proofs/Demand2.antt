@@ -9,7 +9,7 @@ use Prim.Native.Nat.{ℕ}
 use native.Mathlib.Omega.{arith}
 use borrow.Author.Tests.{eqb-true, eq-eqb}
 use lib.ListN.{length}
-use Rattle.std.specs.Prelude.{Ok, Err}
+use Rattle.std.specs.Prelude.{Ok, Err, Option, Some, None}
 use Rattle.bits.specs.Tests.{both}
 use Rattle.bits.specs.Octets.{AreOctets, bit_at}
 use Rattle.layout.specs.Trouble.{Checked, nothing, wrong}
@@ -22,13 +22,10 @@ use Rattle.message.specs.Messages.{kind_of}
 use Rattle.kind.specs.Labels.{labelled_of, is_known, kind_named}
 use Rattle.message.specs.Codec.{message_trouble, message_word}
 use Rattle.message.specs.declared.Message.{Message}
-use Rattle.kind.specs.declared.Labelled.{Labelled}
-use Rattle.kind.specs.declared.Labelled.TheVariants.{Known, Unknown}
 use Rattle.pair.specs.Pairs.{pair_of}
 use Rattle.pair.specs.Opening.{is_labelled, word_kind, word_trouble, word_message, first_word, second_word, open_checks, open_refusal, open_of, open_words, open_contents}
 use Rattle.pair.specs.Closing.{close_checks, close_refusal, close_image}
 use Rattle.pair.specs.ZeroedImage.{message_of, zeroed_word, zeroed_image, Clear}
-use Rattle.pair.specs.declared.Opened.TheVariants.{Pair, Refused}
 use Rattle.bits.proofs.TestLaws.{clash, zero_one}
 use Rattle.bits.proofs.OctetLaws.{bit_lt}
 use Rattle.refusal.proofs.CheckLaws.{Passed, success_passed, passed_success, given, answer_is, answer_not, answer_refused, cause_number_lem}
@@ -40,9 +37,9 @@ use Rattle.pair.proofs.PairLaws.{open_good, words_by, in_table, close_good, buff
 
 -- ---- a word whose label is known and whose content is legal
 
-pub known_is : (l : Labelled) → is_known l ≡ true → l ≡ Known (kind_named l)
-known_is (Known k) e = refl
-known_is Unknown e = absurd (clash e refl)
+pub known_is : (l : Option Kind) → is_known l ≡ true → l ≡ Some (kind_named l)
+known_is (Some k) e = refl
+known_is None e = absurd (clash e refl)
 
 module _ (first second : Message) where
   -- the pair is in the table, and v and w are its words
@@ -53,10 +50,10 @@ module _ (first second : Message) where
 
   -- ---- an image that opens closes to its zeroed image
 
-  module _ (image : List ℕ) (opens : open_of image ≡ Pair first second) where
-    answer : ((open_refusal image).number ≡ success) × (Pair (word_message (first_word image)) (word_message (second_word image)) ≡ Pair first second)
+  module _ (image : List ℕ) (opens : open_of image ≡ Ok (first, second)) where
+    answer : ((open_refusal image).number ≡ success) × (Ok (word_message (first_word image), word_message (second_word image)) ≡ Ok (first, second))
     unfolding open_of
-    answer = answer_is Refused _ (open_refusal image) (Pair first second) (λ r z. zero_one (cc)) opens
+    answer = answer_is _ (open_refusal image) (first, second) opens
 
     passed : Passed (open_checks image)
     unfolding open_refusal
@@ -118,14 +115,14 @@ module _ (first second : Message) where
 
   -- ---- a pair that closes opens again unchanged
 
-  closed_words : (v w : ℕ) → Words v w → open_words v w ≡ Pair first second
+  closed_words : (v w : ℕ) → Words v w → open_words v w ≡ Ok (first, second)
   unfolding open_contents
   closed_words v w x =
       let a = written_read first v x.one in
       let b = written_read second w x.two in
       sym (words_by v w a.label b.label) ∙ sym (in_table (kind_of first) (kind_of second) v w x.paired) ∙ rw (a.content, b.content, a.message, b.message)
 
-  pub closed_opens : (buffer : List ℕ) → close_refusal first second buffer ≡ numbered success → open_of (close_image first second buffer) ≡ Pair first second
+  pub closed_opens : (buffer : List ℕ) → close_refusal first second buffer ≡ numbered success → open_of (close_image first second buffer) ≡ Ok (first, second)
   closed_opens buffer e =
       let l = closes_legal buffer e in
       let v = message_word first in
@@ -150,11 +147,11 @@ pub record Opening (image : List ℕ) : Type 0 where
   pub fine_1 : word_trouble (first_word image) ≡ nothing
   pub fine_2 : word_trouble (second_word image) ≡ nothing
 
-pub opens_exactly : (image : List ℕ) → (open_of image ≡ Pair (word_message (first_word image)) (word_message (second_word image))) ↔ Opening image
+pub opens_exactly : (image : List ℕ) → (open_of image ≡ Ok (word_message (first_word image), word_message (second_word image))) ↔ Opening image
 unfolding open_of open_refusal
 opens_exactly image = (to, from)
   where
-    to : open_of image ≡ Pair (word_message (first_word image)) (word_message (second_word image)) → Opening image
+    to : open_of image ≡ Ok (word_message (first_word image), word_message (second_word image)) → Opening image
     to e =
         let p = passed _ _ image e in
         let q = p.1.1.1.1 in
@@ -168,7 +165,7 @@ opens_exactly image = (to, from)
           fine_2 = q.1.1.1.1.0;
         }
 
-    from : Opening image → open_of image ≡ Pair (word_message (first_word image)) (word_message (second_word image))
+    from : Opening image → open_of image ≡ Ok (word_message (first_word image), word_message (second_word image))
     from o =
         let p = good_parts (bit_at image) o.good in
         given (open_refusal image) _ _
@@ -177,7 +174,7 @@ opens_exactly image = (to, from)
         (eq-eqb _ _ o.size, (p.0, (p.1, (p.2, (o.known_1, (o.known_2, (o.paired, (o.fine_1, (o.fine_2, tt)))))))))))
 
 -- an image that opens does so as its two messages
-pub opened_as : (first second : Message) (image : List ℕ) → open_of image ≡ Pair first second → open_of image ≡ Pair (word_message (first_word image)) (word_message (second_word image))
+pub opened_as : (first second : Message) (image : List ℕ) → open_of image ≡ Ok (first, second) → open_of image ≡ Ok (word_message (first_word image), word_message (second_word image))
 opened_as first second image e = e ∙ sym (answer first second image e).1
 
 -- ---- 7, exactly: the pair is not in the table, where the checks before it are passed
@@ -210,30 +207,30 @@ module _ (image : List ℕ) (long : length image ≡ 16) (frame : good_frame (bi
   unfolding open_refusal
   here = let p = good_parts (bit_at image) frame in rw (eq-eqb _ _ long, p.0, p.1, p.2, one, two)
 
-  pub seven_opened : (open_of image ≡ Refused (numbered bad_pair)) ↔ (pair_of (word_kind (first_word image)) (word_kind (second_word image)) ≡ false)
+  pub seven_opened : (open_of image ≡ Err (numbered bad_pair)) ↔ (pair_of (word_kind (first_word image)) (word_kind (second_word image)) ≡ false)
   unfolding open_of
   seven_opened =
       let q = seven (pair_of (word_kind (first_word image)) (word_kind (second_word image))) (word_trouble (first_word image)) (word_trouble (second_word image)) in
-      let value = Pair (word_message (first_word image)) (word_message (second_word image)) in (
-        λ e. q.0 (sym here ∙ (answer_not Refused value (open_refusal image) (numbered bad_pair) (λ z. zero_one (cc)) (λ x z. cc) e).0),
-        λ e. answer_refused Refused value (here ∙ q.1 e) (λ z. omega arith),
+      let value = Ok (word_message (first_word image), word_message (second_word image)) in (
+        λ e. q.0 (sym here ∙ (answer_not value (open_refusal image) (numbered bad_pair) e).0),
+        λ e. answer_refused value (here ∙ q.1 e) (λ z. omega arith),
       )
 
 -- ---- the zeroed image
 
 module _ (first second : Message) where
   -- of an image that opens, it opens as the same pair
-  pub zeroed_opens : (image : List ℕ) → open_of image ≡ Pair first second → open_of (zeroed_image image) ≡ Pair first second
+  pub zeroed_opens : (image : List ℕ) → open_of image ≡ Ok (first, second) → open_of (zeroed_image image) ≡ Ok (first, second)
   zeroed_opens image opens =
       let c = opened_closes first second image opens image (size first second image opens) in
       ap open_of (sym c.1) ∙ closed_opens first second image c.0
 
   -- and closes to itself
-  pub zeroed_closes : (image : List ℕ) → open_of (zeroed_image image) ≡ Pair first second → (buffer : List ℕ) → length buffer ≡ 16
+  pub zeroed_closes : (image : List ℕ) → open_of (zeroed_image image) ≡ Ok (first, second) → (buffer : List ℕ) → length buffer ≡ 16
       → (close_refusal first second buffer ≡ numbered success) × (close_image first second buffer ≡ zeroed_image image)
   zeroed_closes image opens buffer sixteen = let c = opened_closes first second (zeroed_image image) opens buffer sixteen in (c.0, c.1 ∙ zeroed_once image)
 
-  module _ (image : List ℕ) (opens : open_of image ≡ Pair first second) (octets : AreOctets image) (clear : Clear image) where
+  module _ (image : List ℕ) (opens : open_of image ≡ Ok (first, second)) (octets : AreOctets image) (clear : Clear image) where
     -- an image that opens, and has no digit left in an absent mode's code, is its own zeroed image
     pub clear_zeroed : zeroed_image image ≡ image
     clear_zeroed = clear_own image (size first second image opens) octets (good first second image opens) clear

@@ -14,7 +14,6 @@ use Rattle.kind.specs.Labels.{is_known, kind_named}
 use Rattle.pair.specs.Pairs.{pair_of}
 use Rattle.pair.specs.Opening.{first_word, second_word, open_of, open_words}
 use Rattle.pair.specs.ZeroedImage.{message_of, zeroed_word, zeroed_image}
-use Rattle.pair.specs.declared.Opened.TheVariants.{Pair, Refused}
 use Rattle.bits.proofs.OctetLaws.{bit_lt}
 use Rattle.frame.proofs.FrameLaws.{verdict_good, verdict_image}
 use Rattle.words.proofs.WordLaws.{image_good, length_image, image_first, image_second}
@@ -27,15 +26,13 @@ alike_open : (v w x y : ℕ) → ReadAlike v x → ReadAlike w y → open_words 
 unfolding open_words
 alike_open v w x y (lv, tv, mv) (lw, tw, mw) =
     λ i.
-    answered Refused
-    (first_refusal
+    answered (first_refusal
     (check_at (is_known (lv i)) unknown_label 1
     ∷ check_at (is_known (lw i)) unknown_label 2
     ∷ check (pair_of (kind_named (lv i)) (kind_named (lw i))) bad_pair
     ∷ inside 1 (tv i)
     ∷ inside 2 (tw i)
-    ∷ []))
-    (Pair (mv i) (mw i))
+    ∷ [])) (mv i, mw i)
 
 module _ (image : List ℕ) (good : verdict_of image ≡ numbered success) where
   alike : (k : ℕ) → ReadAlike (zeroed_word image k) (word_of (bit_at image) k)

@@ -20,7 +20,6 @@ use Rattle.message.specs.Codec.{message_trouble}
 use Rattle.message.specs.declared.Message.{Message}
 use Rattle.pair.specs.Opening.{word_kind, word_message, word_trouble, first_word, second_word, open_checks, open_refusal, open_of, refusal_in_opened}
 use Rattle.pair.specs.Closing.{close_checks, close_refusal}
-use Rattle.pair.specs.declared.Opened.TheVariants.{Pair, Refused}
 use Rattle.bits.proofs.NumberLaws.{num_lt}
 use Rattle.bits.proofs.OctetLaws.{bit_lt}
 use Rattle.layout.proofs.TroubleLaws.{begins_narrow, misfits_value}
@@ -72,13 +71,13 @@ module _ (image : List ℕ) where
   pub open_numbers : AllNumbered 12 14 (open_checks image)
   open_numbers = (word_number (first_word image), (word_number (second_word image), tt))
 
-  pub open_first : (place : ℕ) (c : Cause) (b : ℕ) → open_of image ≡ Refused (inside_at place c b)
+  pub open_first : (place : ℕ) (c : Cause) (b : ℕ) → open_of image ≡ Err (inside_at place c b)
       → FirstOfTwo (BeginsInside (first_word image)) (BeginsInside (second_word image)) place (wrong c b)
   unfolding open_of open_refusal
   open_first place c b e =
       let v = first_word image in
       let w = second_word image in
-      let tells = answer_tells Refused (Pair (word_message v) (word_message w)) refusal_in_opened (open_checks image) refl (λ r. refl) refl in
+      let tells = answer_tells (word_message v, word_message w) (open_checks image) refl in
       two_told (BeginsInside v) (BeginsInside w) (word_trouble v) (word_trouble w) (content_first (word_kind v) v) (content_first (word_kind w) w) place c b
       (first_told (open_checks image) refl place c b (sym tells ∙ ap refusal_in_opened e)).1.1.1.1.1.1.1
 

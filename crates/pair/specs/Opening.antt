@@ -1,5 +1,5 @@
 -- Opening an image (01, 'Orders of checks'; 02, item 4).
-use Rattle.std.specs.Prelude.{Bool, List, [], ◌∷◌, ℕ, eqb, length}
+use Rattle.std.specs.Prelude.{Bool, List, [], ◌∷◌, ℕ, eqb, length, Ok, Err}
 use Rattle.bits.specs.Octets.{bit_at}
 use Rattle.layout.specs.Trouble.{Checked}
 use Rattle.refusal.specs.Refusals.{numbered, success, bad_length, bad_start, bad_mark, bad_check, unknown_label, bad_pair}
@@ -12,8 +12,6 @@ use Rattle.message.specs.Codec.{content_trouble, message_in}
 use Rattle.kind.specs.declared.Kind.{Kind}
 use Rattle.message.specs.declared.Message.{Message}
 use Rattle.pair.specs.Pairs.{pair_of}
-use Rattle.pair.specs.declared.Opened.{Opened}
-use Rattle.pair.specs.declared.Opened.TheVariants.{Pair, Refused}
 
 -- ---- what is asked of the two words of a frame
 
@@ -61,12 +59,12 @@ open_refusal image = first_refusal (open_checks image)
 
 -- what an image opens as: its two messages, or the refusal
 unfoldable pub open_of : List ℕ → Opened
-open_of image = answered Refused (open_refusal image) (Pair (word_message (first_word image)) (word_message (second_word image)))
+open_of image = answered (open_refusal image) (word_message (first_word image), word_message (second_word image))
 
 -- 01's number and place of each case, and 02's bit
 abbrev pub refusal_in_opened : Opened → Refusal
-refusal_in_opened (Pair first second) = numbered success
-refusal_in_opened (Refused r) = r
+refusal_in_opened (Ok (first, second)) = numbered success
+refusal_in_opened (Err r) = r
 
 -- ---- the steps of the code
 
@@ -81,9 +79,9 @@ word_checks v w =
     ∷ []
 
 unfoldable pub open_words : ℕ → ℕ → Opened
-open_words v w = answered Refused (first_refusal (word_checks v w)) (Pair (word_message v) (word_message w))
+open_words v w = answered (first_refusal (word_checks v w)) (word_message v, word_message w)
 
 -- the contents of words of known kinds
 unfoldable pub open_contents : Kind → Kind → ℕ → ℕ → Opened
 open_contents k l v w =
-    answered Refused (first_refusal (inside 1 (content_trouble k v) ∷ inside 2 (content_trouble l w) ∷ [])) (Pair (message_in k v) (message_in l w))
+    answered (first_refusal (inside 1 (content_trouble k v) ∷ inside 2 (content_trouble l w) ∷ [])) (message_in k v, message_in l w)

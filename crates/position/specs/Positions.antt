@@ -1,42 +1,41 @@
 -- Which messages have a position (01, 'Messages': S.4, S.4+, S.8 and S.8+; 02, item 1: S.9), and a message with another.
-use Rattle.std.specs.Prelude.{Bool, true, false, ℤ, pos}
+use Rattle.std.specs.Prelude.{Bool, true, false, ℤ, pos, Option, Some, None}
 use Rattle.message.specs.declared.Track.{Track}
 use Rattle.message.specs.declared.Corner.{Corner}
 use Rattle.message.specs.declared.Message.{Message}
 use Rattle.message.specs.declared.Message.TheVariants.{Blank, S0, S3, S4, S4Plus, S5, S6, S8, S8Plus, S9}
 use Rattle.position.specs.declared.Position.{Position}
-use Rattle.position.specs.declared.Position.TheVariants.{At, Nowhere}
 
-abbrev pub track_position : Track → Position
-track_position t = At t.x t.y
+abbrev pub track_position : Track → Option Position
+track_position t = Some (record { x = t.x; y = t.y })
 
-abbrev pub corner_position : Corner → Position
-corner_position c = At c.x c.y
+abbrev pub corner_position : Corner → Option Position
+corner_position c = Some (record { x = c.x; y = c.y })
 
-abbrev pub position_of : Message → Position
-position_of Blank = Nowhere
-position_of S0 = Nowhere
-position_of (S3 i) = Nowhere
+abbrev pub position_of : Message → Option Position
+position_of Blank = None
+position_of S0 = None
+position_of (S3 i) = None
 position_of (S4 t) = track_position t
 position_of (S4Plus t) = track_position t
-position_of (S5 a) = Nowhere
-position_of (S6 s) = Nowhere
+position_of (S5 a) = None
+position_of (S6 s) = None
 position_of (S8 t) = track_position t
 position_of (S8Plus t) = track_position t
 position_of (S9 c) = corner_position c
 
 -- whether there is a position; X and Y in steps, 0 where there is none
-abbrev pub is_somewhere : Position → Bool
-is_somewhere (At x y) = true
-is_somewhere Nowhere = false
+abbrev pub is_somewhere : Option Position → Bool
+is_somewhere (Some (record { x = x; y = y })) = true
+is_somewhere None = false
 
-abbrev pub x_of : Position → ℤ
-x_of (At x y) = x.0
-x_of Nowhere = pos 0
+abbrev pub x_of : Option Position → ℤ
+x_of (Some (record { x = x; y = y })) = x.0
+x_of None = pos 0
 
-abbrev pub y_of : Position → ℤ
-y_of (At x y) = y.0
-y_of Nowhere = pos 0
+abbrev pub y_of : Option Position → ℤ
+y_of (Some (record { x = x; y = y })) = y.0
+y_of None = pos 0
 
 -- all else in the message stays
 abbrev pub placed_track : Track → ℤ → ℤ → Track

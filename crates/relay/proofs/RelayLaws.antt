@@ -5,6 +5,7 @@ use Prim.Native.Nat.{ℕ}
 use borrow.Author.Tests.{eq-eqb, ne_eqb}
 use lib.IntN.{ℤ}
 use lib.ListN.{length, replicate}
+use Rattle.std.specs.Prelude.{Ok, Err}
 use Rattle.refusal.specs.Refusals.{numbered, success, bad_length}
 use Rattle.refusal.specs.Checks.{first_refusal}
 use Rattle.refusal.specs.declared.Refusal.{Refusal}
@@ -13,9 +14,7 @@ use Rattle.message.specs.declared.Message.{Message}
 use Rattle.pair.specs.Pairs.{pair_of}
 use Rattle.pair.specs.Opening.{open_checks, open_refusal, open_of}
 use Rattle.pair.specs.Closing.{close_refusal, close_image}
-use Rattle.pair.specs.declared.Opened.TheVariants.{Pair, Refused}
 use Rattle.shift.specs.Shift.{shifted_by, shift_checks, pair_shifted}
-use Rattle.shift.specs.declared.ShiftedPair.TheVariants as P
 use Rattle.relay.specs.Relay.{first_message, second_message, pair_checks, relay_refusal, image_shifted, relay_image}
 use Rattle.bits.proofs.TestLaws.{zero_one}
 use Rattle.refusal.proofs.CheckLaws.{Refuses, Passed, success_passed, passed_success, given, stays, answer_is, answer_not, more_refused, more_passed}
@@ -29,19 +28,19 @@ module _ (image : List ℕ) (xs ys : List ℤ) (buffer : List ℕ) where
   buffer_stays r e h = sym (stays (relay_refusal image xs ys buffer) _ buffer e h)
 
   -- what opening refuses is passed up whole
-  pub open_refused : (r : Refusal) → open_of image ≡ Refused r → (relay_refusal image xs ys buffer ≡ r) × Refuses r
+  pub open_refused : (r : Refusal) → open_of image ≡ Err r → (relay_refusal image xs ys buffer ≡ r) × Refuses r
   unfolding open_of open_refusal relay_refusal
   open_refused r e =
-      let p = answer_not Refused (Pair (first_message image) (second_message image)) (open_refusal image) r (λ z. zero_one (cc)) (λ x z. cc) e in
+      let p = answer_not (first_message image, second_message image) (open_refusal image) r e in
       (more_refused (open_checks image) (pair_checks (first_message image) (second_message image) xs ys buffer) refl p.0 p.1, p.1)
 
 -- ---- an image that opens
 
-module _ (first second : Message) (image : List ℕ) (opens : open_of image ≡ Pair first second) where
+module _ (first second : Message) (image : List ℕ) (opens : open_of image ≡ Ok (first, second)) where
   pub messages : ((open_refusal image).number ≡ success) × (first_message image ≡ first) × (second_message image ≡ second)
   unfolding open_of
   messages =
-      let p = answer_is Refused (Pair (first_message image) (second_message image)) (open_refusal image) (Pair first second) (λ r z. zero_one (cc)) opens in
+      let p = answer_is (first_message image, second_message image) (open_refusal image) (first, second) opens in
       let q = p.1 in (p.0, cc, cc)
 
   pub opened_legal : Legal first second
@@ -80,7 +79,7 @@ module _ (first second : Message) (xs ys : List ℤ) where
 
 -- ---- the steps of the code, of an image that opens
 
-module _ (first second : Message) (image : List ℕ) (opens : open_of image ≡ Pair first second) (xs ys : List ℤ) (buffer : List ℕ) where
+module _ (first second : Message) (image : List ℕ) (opens : open_of image ≡ Ok (first, second)) (xs ys : List ℤ) (buffer : List ℕ) where
   pub bad_buffer : (length buffer ≡ 16 → ⊥) → relay_refusal image xs ys buffer ≡ numbered bad_length
   bad_buffer h = refusal_opened first second image opens xs ys buffer ∙ rw (ne_eqb _ _ h)
 
@@ -88,17 +87,17 @@ module _ (first second : Message) (image : List ℕ) (opens : open_of image ≡ 
     good_buffer : relay_refusal image xs ys buffer ≡ first_refusal (shift_checks first second xs ys)
     good_buffer = refusal_opened first second image opens xs ys buffer ∙ rw (eq-eqb _ _ sixteen)
 
-    pub shift_refused : (r : Refusal) → pair_shifted first second xs ys ≡ P.Refused r → (relay_refusal image xs ys buffer ≡ r) × Refuses r
+    pub shift_refused : (r : Refusal) → pair_shifted first second xs ys ≡ Err r → (relay_refusal image xs ys buffer ≡ r) × Refuses r
     unfolding pair_shifted
     shift_refused r e =
-        let p = answer_not P.Refused (P.Of (shifted_by xs ys first) (shifted_by xs ys second)) (first_refusal (shift_checks first second xs ys)) r (λ z. zero_one (cc)) (λ x z. cc) e in
+        let p = answer_not (shifted_by xs ys first, shifted_by xs ys second) (first_refusal (shift_checks first second xs ys)) r e in
         (good_buffer ∙ p.0, p.1)
 
-    pub shift_closed : (a b : Message) → pair_shifted first second xs ys ≡ P.Of a b
+    pub shift_closed : (a b : Message) → pair_shifted first second xs ys ≡ Ok (a, b)
         → (close_refusal a b buffer ≡ relay_refusal image xs ys buffer) × (close_image a b buffer ≡ relay_image image xs ys buffer)
     unfolding pair_shifted
     shift_closed a b e =
-        let p = answer_is P.Refused (P.Of (shifted_by xs ys first) (shifted_by xs ys second)) (first_refusal (shift_checks first second xs ys)) (P.Of a b) (λ r z. zero_one (cc)) e in
+        let p = answer_is (shifted_by xs ys first, shifted_by xs ys second) (first_refusal (shift_checks first second xs ys)) (a, b) e in
         let q = p.1 in
         let is-a : shifted_by xs ys first ≡ a = cc in
         let is_b : shifted_by xs ys second ≡ b = cc in

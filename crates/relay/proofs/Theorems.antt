@@ -9,6 +9,7 @@ use borrow.Author.Tests.{eq-eqb, eqb-true, le-leb, leb-true}
 use lib.Dec.{leb}
 use lib.IntN.{ℤ, nat_abs, neg_ℤ}
 use lib.ListN.{length}
+use Rattle.std.specs.Prelude.{Ok, Err, Option}
 use Rattle.bits.specs.Tests.{both}
 use Rattle.layout.specs.declared.Cause.{Cause}
 use Rattle.refusal.specs.Refusals.{numbered, success, inside_at}
@@ -18,8 +19,6 @@ use Rattle.message.specs.declared.Message.{Message}
 use Rattle.pair.specs.Opening.{open_of}
 use Rattle.pair.specs.Closing.{close_refusal, close_image}
 use Rattle.pair.specs.ZeroedImage.{zeroed_image}
-use Rattle.pair.specs.declared.Opened.{Opened}
-use Rattle.pair.specs.declared.Opened.TheVariants.{Pair, Refused}
 use Rattle.position.specs.Positions.{position_of, is_somewhere, x_of, y_of}
 use Rattle.shift.specs.Shift.{shifted_by}
 use Rattle.position.specs.declared.Position.{Position}
@@ -35,7 +34,7 @@ use Rattle.relay.proofs.RelayLaws.{open_refused, opened_legal, messages, refusal
 
 -- ---- an image that opens, relayed without a refusal
 
-module _ (first second : Message) (image : List ℕ) (opens : open_of image ≡ Pair first second) (xs ys : List ℤ) (buffer : List ℕ) (e : relay_refusal image xs ys buffer ≡ numbered success) where
+module _ (first second : Message) (image : List ℕ) (opens : open_of image ≡ Ok (first, second)) (xs ys : List ℤ) (buffer : List ℕ) (e : relay_refusal image xs ys buffer ≡ numbered success) where
   passed : Passed (pair_checks first second xs ys buffer)
   passed =
       success_passed (pair_checks first second xs ys buffer) refl (ap (λ (r : Refusal). r.number) (sym (refusal_opened first second image opens xs ys buffer) ∙ e))
@@ -51,30 +50,30 @@ module _ (first second : Message) (image : List ℕ) (opens : open_of image ≡ 
   written : relay_image image xs ys buffer ≡ close_image (shifted_by xs ys first) (shifted_by xs ys second) buffer
   written = image_opened first second image opens xs ys buffer (ap (λ (r : Refusal). r.number) e) ∙ sym closes.1
 
-  goes_on : open_of (relay_image image xs ys buffer) ≡ Pair (shifted_by xs ys first) (shifted_by xs ys second)
+  goes_on : open_of (relay_image image xs ys buffer) ≡ Ok (shifted_by xs ys first, shifted_by xs ys second)
   goes_on = ap open_of written ∙ closed_opens _ _ buffer closes.0
 
 -- ---- when a relay is taken, and what it then gives
 
 -- the image opens; what is written opens; of each message the position is nearest to the exact sum in feet, and all else is as it was
 pub record Carried (image : List ℕ) (xs ys : List ℤ) (after : List ℕ) : Type 0 where
-  pub came : open_of image ≡ Pair (first_message image) (second_message image)
-  pub goes : open_of after ≡ Pair (first_message after) (second_message after)
+  pub came : open_of image ≡ Ok (first_message image, second_message image)
+  pub goes : open_of after ≡ Ok (first_message after, second_message after)
   pub one : Nearby (first_message image) xs ys (first_message after)
   pub two : Nearby (second_message image) xs ys (second_message after)
 
 module _ (image : List ℕ) (xs ys : List ℤ) (buffer : List ℕ) where
-  came_open : relay_refusal image xs ys buffer ≡ numbered success → open_of image ≡ Pair (first_message image) (second_message image)
+  came_open : relay_refusal image xs ys buffer ≡ numbered success → open_of image ≡ Ok (first_message image, second_message image)
   came_open e = go (open_of image) refl
     where
-      go : (o : Opened) → open_of image ≡ o → open_of image ≡ Pair (first_message image) (second_message image)
-      go (Refused r) f = let p = open_refused image xs ys buffer r f in absurd (p.1 (ap (λ (x : Refusal). x.number) (sym p.0 ∙ e)))
-      go (Pair first second) f = opened_as first second image f
+      go : (o : Opened) → open_of image ≡ o → open_of image ≡ Ok (first_message image, second_message image)
+      go (Err r) f = let p = open_refused image xs ys buffer r f in absurd (p.1 (ap (λ (x : Refusal). x.number) (sym p.0 ∙ e)))
+      go (Ok (first, second)) f = opened_as first second image f
 
   -- the image opens, the buffer has sixteen octets, the lists are short and in range, and every nearest step is one of the link
   pub relay_exactly :
       (relay_refusal image xs ys buffer ≡ numbered success)
-      ↔ ((open_of image ≡ Pair (first_message image) (second_message image))
+      ↔ ((open_of image ≡ Ok (first_message image, second_message image))
       × (length buffer ≡ 16)
       × (length xs ≤ 8)
       × (length ys ≤ 8)
@@ -136,12 +135,12 @@ module _ (image : List ℕ) (xs ys : List ℤ) (buffer : List ℕ) where
   pub relay_numbers : AllNumbered 12 14 (relay_checks image xs ys buffer)
   relay_numbers = open_numbers image
 
-  pub relay_first : (place : ℕ) (c : Cause) (b : ℕ) → relay_refusal image xs ys buffer ≡ inside_at place c b → open_of image ≡ Refused (inside_at place c b)
+  pub relay_first : (place : ℕ) (c : Cause) (b : ℕ) → relay_refusal image xs ys buffer ≡ inside_at place c b → open_of image ≡ Err (inside_at place c b)
   relay_first place c b e = go (open_of image) refl
     where
-      go : (o : Opened) → open_of image ≡ o → open_of image ≡ Refused (inside_at place c b)
-      go (Refused r) f = f ∙ ap Refused (sym (open_refused image xs ys buffer r f).0 ∙ e)
-      go (Pair first second) f =
+      go : (o : Opened) → open_of image ≡ o → open_of image ≡ Err (inside_at place c b)
+      go (Err r) f = f ∙ ap Err (sym (open_refused image xs ys buffer r f).0 ∙ e)
+      go (Ok (first, second)) f =
           absurd
           (first_told (pair_checks first second xs ys buffer) refl place c b (sym (refusal_opened first second image f xs ys buffer) ∙ e)).1.1.1.1.1.1.1.1.1
 
@@ -155,7 +154,7 @@ any_order image buffer p q =
 
 -- ---- empty lists: an image that opens is relayed to its zeroed image
 
-pub nothing_moves : (first second : Message) (image : List ℕ) → open_of image ≡ Pair first second → (buffer : List ℕ) → length buffer ≡ 16
+pub nothing_moves : (first second : Message) (image : List ℕ) → open_of image ≡ Ok (first, second) → (buffer : List ℕ) → length buffer ≡ 16
     → (relay_refusal image [] [] buffer ≡ numbered success) × (relay_image image [] [] buffer ≡ zeroed_image image)
 unfolding are_offsets
 nothing_moves first second image opens buffer long =
@@ -197,10 +196,10 @@ module _ (image : List ℕ) (xs ys us vs : List ℤ) (buffer buffer' : List ℕ)
         (q.0 ∙ ap (shifted_by us vs) p.0, q.1 ∙ ap (shifted_by us vs) p.1)
 
     -- one axis of both messages
-    abbrev pub Returns : (Position → ℤ) → Type 0
+    abbrev pub Returns : ((Option Position) → ℤ) → Type 0
     Returns axis = (axis (position_of (first_message back)) ≡ axis (position_of (first_message image))) × (axis (position_of (second_message back)) ≡ axis (position_of (second_message image)))
 
-    returns_by : (axis : Position → ℤ) → ((m : Message) → axis (position_of (shifted_by us vs (shifted_by xs ys m))) ≡ axis (position_of m)) → Returns axis
+    returns_by : (axis : Option Position → ℤ) → ((m : Message) → axis (position_of (shifted_by us vs (shifted_by xs ys m))) ≡ axis (position_of m)) → Returns axis
     returns_by axis same = (
       ap (λ (m : Message). axis (position_of m)) returned.0 ∙ same (first_message image),
       ap (λ (m : Message). axis (position_of m)) returned.1 ∙ same (second_message image),

@@ -9,6 +9,7 @@ use lib.Dec.{ltb}
 use lib.Signed.{mag}
 use native.Mathlib.Omega.{arith}
 use borrow.Author.Tests.{ltb-true, lt-ltb}
+use Rattle.std.specs.Prelude.{Some}
 use Rattle.bits.specs.Tests.{pick, both}
 use Rattle.bits.specs.Twos.{unsigned_of}
 use Rattle.layout.specs.Layout.{Field, signed, Values, write_as}
@@ -20,7 +21,6 @@ use Rattle.message.specs.Messages.{kind_of, track_parts, corner_parts}
 use Rattle.message.specs.declared.Message.{Message}
 use Rattle.message.specs.declared.Message.TheVariants as m
 use Rattle.position.specs.Positions.{position_of, is_somewhere, x_of, y_of, placed_at}
-use Rattle.position.specs.declared.Position.TheVariants.{At}
 use Rattle.bits.proofs.TestLaws.{clash, both_true}
 use Rattle.bits.proofs.TwosLaws.{unsigned_lt}
 use Rattle.layout.proofs.LayoutLaws.{in_field, fits_more, fits_anywhere, nothing_is}
@@ -103,7 +103,7 @@ pub record Placing (m : Message) : Type 0 where
   pub again : (x y u v : ℤ) → placed_at (placed_at m x y) u v ≡ placed_at m u v
   pub own : placed_at m (x_of (position_of m)) (y_of (position_of m)) ≡ m
   -- if it has a position, it then has the new one, which fits; and the old one did
-  pub there : is_somewhere (position_of m) ≡ true → (x y : ℤ) → position_of (placed_at m x y) ≡ At (record { 0 = x }) (record { 0 = y })
+  pub there : is_somewhere (position_of m) ≡ true → (x y : ℤ) → position_of (placed_at m x y) ≡ Some (record { x = record { 0 = x }; y = record { 0 = y } })
   pub fit : is_somewhere (position_of m) ≡ true → message_trouble m ≡ nothing → (x y : ℤ) → is_step x ≡ true → is_step y ≡ true → message_trouble (placed_at m x y) ≡ nothing
   pub range : is_somewhere (position_of m) ≡ true → message_trouble m ≡ nothing → (is_step (x_of (position_of m)) ≡ true) × (is_step (y_of (position_of m)) ≡ true)
 
@@ -121,7 +121,7 @@ nowhere m h still =
 
 -- one that has one
 somewhere : (m : Message) → ((x y : ℤ) → kind_of (placed_at m x y) ≡ kind_of m) → ((x y u v : ℤ) → placed_at (placed_at m x y) u v ≡ placed_at m u v)
-    → placed_at m (x_of (position_of m)) (y_of (position_of m)) ≡ m → ((x y : ℤ) → position_of (placed_at m x y) ≡ At (record { 0 = x }) (record { 0 = y }))
+    → placed_at m (x_of (position_of m)) (y_of (position_of m)) ≡ m → ((x y : ℤ) → position_of (placed_at m x y) ≡ Some (record { x = record { 0 = x }; y = record { 0 = y } }))
     → (message_trouble m ≡ nothing → (ws : Values axes) → fits axes ws ≡ true → message_trouble (placed_at m ws.0 ws.1.0) ≡ nothing)
     → (message_trouble m ≡ nothing → fits axes (x_of (position_of m), (y_of (position_of m), tt)) ≡ true) → Placing m
 somewhere m kind again own there fit range =

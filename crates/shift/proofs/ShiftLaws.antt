@@ -7,6 +7,7 @@ use Prim.Native.Nat.{◌≤◌}
 use borrow.Author.Tests.{le-leb, leb-true}
 use lib.IntN.{ℤ}
 use lib.ListN.{length}
+use Rattle.std.specs.Prelude.{Ok, Err}
 use Rattle.refusal.specs.Refusals.{numbered, success}
 use Rattle.refusal.specs.Checks.{first_refusal, answered}
 use Rattle.refusal.specs.Table.{◌at◌, in_order}
@@ -15,55 +16,51 @@ use Rattle.units.specs.Offsets.{are_offsets, sum_z}
 use Rattle.units.specs.declared.Feet.{Feet}
 use Rattle.message.specs.declared.Message.{Message}
 use Rattle.shift.specs.Shift.{shifted, shifted_by, list_checks, result_checks, both_checks, shift_checks, pair_shifted, sums_of, both_shifted, shifted_of}
-use Rattle.shift.specs.declared.Sums.TheVariants as U
-use Rattle.shift.specs.declared.Shifted.TheVariants as S
-use Rattle.shift.specs.declared.ShiftedPair.TheVariants as P
 use Rattle.bits.proofs.TestLaws.{zero_one}
 use Rattle.refusal.proofs.CheckLaws.{success_exactly, stage_refused, stage_passed}
 
 -- ---- the first message, and then the second
 
 module _ (first second : Message) (dx dy : ℤ) where
-  pub first_refused : (r : Refusal) → shifted_of first dx dy 1 2 ≡ S.Refused r → P.Refused r ≡ both_shifted first second dx dy
+  pub first_refused : (r : Refusal) → shifted_of first dx dy 1 2 ≡ Err r → Err r ≡ both_shifted first second dx dy
   unfolding shifted_of both_shifted
   first_refused r e =
-      stage_refused (result_checks first dx dy 1 2) (result_checks second dx dy 3 4) refl S.Refused (S.To (shifted first dx dy)) P.Refused _ r (λ z. zero_one (cc)) (λ x z. cc) e
+      stage_refused (result_checks first dx dy 1 2) (result_checks second dx dy 3 4) refl (shifted first dx dy) _ r e
 
-  module _ (a : Message) (e : shifted_of first dx dy 1 2 ≡ S.To a) where
+  module _ (a : Message) (e : shifted_of first dx dy 1 2 ≡ Ok a) where
     first_moved : (shifted first dx dy ≡ a)
-        × (answered P.Refused (first_refusal (result_checks second dx dy 3 4)) (P.Of (shifted first dx dy) (shifted second dx dy)) ≡ both_shifted first second dx dy)
+        × (answered (first_refusal (result_checks second dx dy 3 4)) (shifted first dx dy, shifted second dx dy) ≡ both_shifted first second dx dy)
     unfolding shifted_of both_shifted
     first_moved =
-        let p = stage_passed (result_checks first dx dy 1 2) (result_checks second dx dy 3 4) refl S.Refused (S.To (shifted first dx dy)) P.Refused (P.Of (shifted first dx dy) (shifted second dx dy)) (S.To a) (λ r z. zero_one (cc)) e in
+        let p = stage_passed (result_checks first dx dy 1 2) (result_checks second dx dy 3 4) refl (shifted first dx dy) (shifted first dx dy, shifted second dx dy) a e in
         let q = p.0 in (cc, p.1)
 
-    pub second_refused : (r : Refusal) → shifted_of second dx dy 3 4 ≡ S.Refused r → P.Refused r ≡ both_shifted first second dx dy
+    pub second_refused : (r : Refusal) → shifted_of second dx dy 3 4 ≡ Err r → Err r ≡ both_shifted first second dx dy
     unfolding shifted_of
     second_refused r f =
-        stage_refused (result_checks second dx dy 3 4) [] refl S.Refused (S.To (shifted second dx dy)) P.Refused (P.Of (shifted first dx dy) (shifted second dx dy)) r (λ z. zero_one (cc)) (λ x z. cc) f
+        stage_refused (result_checks second dx dy 3 4) [] refl (shifted second dx dy) (shifted first dx dy, shifted second dx dy) r f
         ∙ first_moved.1
 
-    pub both_moved : (b : Message) → shifted_of second dx dy 3 4 ≡ S.To b → P.Of a b ≡ both_shifted first second dx dy
+    pub both_moved : (b : Message) → shifted_of second dx dy 3 4 ≡ Ok b → Ok (a, b) ≡ both_shifted first second dx dy
     unfolding shifted_of
     both_moved b f =
-        let p = stage_passed (result_checks second dx dy 3 4) [] refl S.Refused (S.To (shifted second dx dy)) P.Refused (P.Of (shifted first dx dy) (shifted second dx dy)) (S.To b) (λ r z. zero_one (cc)) f in
+        let p = stage_passed (result_checks second dx dy 3 4) [] refl (shifted second dx dy) (shifted first dx dy, shifted second dx dy) b f in
         let q = p.0 in
         let is : shifted second dx dy ≡ b = cc in
-        sym (ap₂ P.Of first_moved.0 is) ∙ p.1 ∙ first_moved.1
+        sym (ap₂ Ok (first_moved.0, is)) ∙ p.1 ∙ first_moved.1
 
 -- ---- the lists, and then both messages
 
 module _ (first second : Message) (xs ys : List ℤ) where
-  pub lists_refused : (r : Refusal) → sums_of xs ys ≡ U.Refused r → P.Refused r ≡ pair_shifted first second xs ys
+  pub lists_refused : (r : Refusal) → sums_of xs ys ≡ Err r → Err r ≡ pair_shifted first second xs ys
   unfolding sums_of pair_shifted
   lists_refused r e =
-      stage_refused (list_checks xs ys) (both_checks first second (sum_z xs) (sum_z ys)) refl U.Refused (U.Of (record { 0 = sum_z xs }) (record { 0 = sum_z ys })) P.Refused _ r (λ z. zero_one (cc)) (λ x z. cc) e
+      stage_refused (list_checks xs ys) (both_checks first second (sum_z xs) (sum_z ys)) refl (record { x = record { 0 = sum_z xs }; y = record { 0 = sum_z ys } }) _ r e
 
-  pub lists_added : (dx dy : Feet) → sums_of xs ys ≡ U.Of dx dy → both_shifted first second dx.0 dy.0 ≡ pair_shifted first second xs ys
+  pub lists_added : (dx dy : Feet) → sums_of xs ys ≡ Ok (record { x = dx; y = dy }) → both_shifted first second dx.0 dy.0 ≡ pair_shifted first second xs ys
   unfolding sums_of pair_shifted both_shifted
   lists_added dx dy e =
-      let p = stage_passed (list_checks xs ys) (both_checks first second (sum_z xs) (sum_z ys)) refl U.Refused (U.Of (record { 0 = sum_z xs }) (record { 0 = sum_z ys })) P.Refused
-      (P.Of (shifted_by xs ys first) (shifted_by xs ys second)) (U.Of dx dy) (λ r z. zero_one (cc)) e in
+      let p = stage_passed (list_checks xs ys) (both_checks first second (sum_z xs) (sum_z ys)) refl (record { x = record { 0 = sum_z xs }; y = record { 0 = sum_z ys } }) (shifted_by xs ys first, shifted_by xs ys second) (record { x = dx; y = dy }) e in
       let q = p.0 in
       let a : sum_z xs ≡ dx.0 = cc in
       let b : sum_z ys ≡ dy.0 = cc in

@@ -1,5 +1,5 @@
 -- The shift of two messages by lists of offsets (01, 'The shift'; 02, item 6).
-use Rattle.std.specs.Prelude.{Bool, true, List, [], ◌∷◌, ◌++◌, ℕ, leb, ℤ, length}
+use Rattle.std.specs.Prelude.{Bool, true, List, [], ◌∷◌, ◌++◌, ℕ, leb, ℤ, length, Result, Option, Some, None}
 use Rattle.refusal.specs.Refusals.{bad_length, out_of_range}
 use Rattle.refusal.specs.Checks.{Check, check_at, first_refusal, answered}
 use Rattle.units.specs.Offsets.{are_offsets, sum_z}
@@ -7,20 +7,13 @@ use Rattle.units.specs.Steps.{nearest_to, is_step}
 use Rattle.message.specs.declared.Message.{Message}
 use Rattle.position.specs.Positions.{position_of, placed_at}
 use Rattle.position.specs.declared.Position.{Position}
-use Rattle.position.specs.declared.Position.TheVariants.{At, Nowhere}
-use Rattle.shift.specs.declared.Sums.{Sums}
-use Rattle.shift.specs.declared.Sums.TheVariants as U
-use Rattle.shift.specs.declared.Shifted.{Shifted}
-use Rattle.shift.specs.declared.Shifted.TheVariants as S
-use Rattle.shift.specs.declared.ShiftedPair.{ShiftedPair}
-use Rattle.shift.specs.declared.ShiftedPair.TheVariants as P
 
 -- ---- one message, by dx and dy feet
 
 -- each axis goes to the step nearest to 750 times the old value plus the feet; a message without a position passes through
-abbrev pub shifted_from : Position → Message → ℤ → ℤ → Message
-shifted_from (At x y) m dx dy = placed_at m (nearest_to x.0 dx) (nearest_to y.0 dy)
-shifted_from Nowhere m dx dy = m
+abbrev pub shifted_from : Option Position → Message → ℤ → ℤ → Message
+shifted_from (Some (record { x = x; y = y })) m dx dy = placed_at m (nearest_to x.0 dx) (nearest_to y.0 dy)
+shifted_from None m dx dy = m
 
 abbrev pub shifted : Message → ℤ → ℤ → Message
 shifted m dx dy = shifted_from (position_of m) m dx dy
@@ -30,13 +23,13 @@ abbrev pub shifted_by : List ℤ → List ℤ → Message → Message
 shifted_by xs ys m = shifted m (sum_z xs) (sum_z ys)
 
 -- whether the new X, and the new Y, is a step from -4096 to 4095; where there is no position nothing can be out of range
-abbrev pub x_lands : Position → ℤ → Bool
-x_lands (At x y) dx = is_step (nearest_to x.0 dx)
-x_lands Nowhere dx = true
+abbrev pub x_lands : Option Position → ℤ → Bool
+x_lands (Some (record { x = x; y = y })) dx = is_step (nearest_to x.0 dx)
+x_lands None dx = true
 
-abbrev pub y_lands : Position → ℤ → Bool
-y_lands (At x y) dy = is_step (nearest_to y.0 dy)
-y_lands Nowhere dy = true
+abbrev pub y_lands : Option Position → ℤ → Bool
+y_lands (Some (record { x = x; y = y })) dy = is_step (nearest_to y.0 dy)
+y_lands None dy = true
 
 -- ---- the checks
 
@@ -64,21 +57,21 @@ shift_checks first second xs ys = list_checks xs ys ++ both_checks first second 
 
 -- ---- what is answered
 
-unfoldable pub pair_shifted : Message → Message → List ℤ → List ℤ → ShiftedPair
+unfoldable pub pair_shifted : Message → Message → List ℤ → List ℤ → Result (Message × Message) Refusal
 pair_shifted first second xs ys =
-    answered P.Refused (first_refusal (shift_checks first second xs ys)) (P.Of (shifted_by xs ys first) (shifted_by xs ys second))
+    answered (first_refusal (shift_checks first second xs ys)) (shifted_by xs ys first, shifted_by xs ys second)
 
 -- ---- the steps of the code
 
 -- the lists, and their sums
-unfoldable pub sums_of : List ℤ → List ℤ → Sums
-sums_of xs ys = answered U.Refused (first_refusal (list_checks xs ys)) (U.Of (record { 0 = sum_z xs }) (record { 0 = sum_z ys }))
+unfoldable pub sums_of : List ℤ → List ℤ → Result Offset Refusal
+sums_of xs ys = answered (first_refusal (list_checks xs ys)) (record { x = record { 0 = sum_z xs }; y = record { 0 = sum_z ys } })
 
 -- both messages, by their sums
-unfoldable pub both_shifted : Message → Message → ℤ → ℤ → ShiftedPair
+unfoldable pub both_shifted : Message → Message → ℤ → ℤ → Result (Message × Message) Refusal
 both_shifted first second dx dy =
-    answered P.Refused (first_refusal (both_checks first second dx dy)) (P.Of (shifted first dx dy) (shifted second dx dy))
+    answered (first_refusal (both_checks first second dx dy)) (shifted first dx dy, shifted second dx dy)
 
 -- one message
-unfoldable pub shifted_of : Message → ℤ → ℤ → ℕ → ℕ → Shifted
-shifted_of m dx dy px py = answered S.Refused (first_refusal (result_checks m dx dy px py)) (S.To (shifted m dx dy))
+unfoldable pub shifted_of : Message → ℤ → ℤ → ℕ → ℕ → Result Message Refusal
+shifted_of m dx dy px py = answered (first_refusal (result_checks m dx dy px py)) (shifted m dx dy)

@@ -1,6 +1,5 @@
 -- `reading::read_content` meets its contract. Assumes nothing.
 use mathlib.Core.Path.{sym, ap, ◌∙◌}
-use Rattle.message.specs.declared.Content.TheVariants.{Good, Refused}
 use Rattle.message.proofs.CodecLaws.{content_right, content_wrong}
 use Rattle.reading.proofs.read_content.Goals as goal
 

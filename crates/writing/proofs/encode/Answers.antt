@@ -1,7 +1,6 @@
 -- `writing::encode` meets its contract. Assumes nothing.
 use mathlib.Core.Path.{sym, ap, ◌∙◌}
 use Rattle.message.specs.Codec.{message_trouble, message_word}
-use Rattle.message.specs.declared.Encoded.TheVariants.{Word, Refused}
 use Rattle.layout.proofs.RuleLaws.{packed_word, packed_wrong}
 use Rattle.message.proofs.CodecLaws.{word_right, word_wrong}
 use Rattle.writing.proofs.encode.Goals as goal
