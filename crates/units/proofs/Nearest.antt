@@ -7,13 +7,13 @@ use native.Mathlib.Omega.{arith}
 use borrow.Author.Tests.{leb-true, le-leb, lt-leb}
 use lib.IntN.{ℤ, pos, negsuc, neg_ℤ, nat_abs, ◌-ℤ◌, ◌*ℤ◌}
 use lib.Signed.{le_z}
+use Rattle.std.specs.Prelude.{Ok, Err}
 use Rattle.bits.specs.Tests.{pick}
 use Rattle.refusal.specs.Refusals.{numbered, out_of_range}
 use Rattle.units.specs.Steps.{near}
 use Rattle.units.specs.Heights.{near_alt, altitude_of, height_checks, height_refusal, height_of}
 use Rattle.units.specs.Nearest.{dist, Nearest}
 use Rattle.units.specs.declared.AltSteps.{AltSteps}
-use Rattle.units.specs.declared.Height.TheVariants as H
 use Rattle.bits.proofs.TestLaws.{by_lt, zero_one}
 use Rattle.refusal.proofs.CheckLaws.{success_passed, answer_is}
 use Rattle.units.proofs.Parts.{up, dn, side, abs_parts, from_parts, add_parts, neg_parts, mul_parts, le_false}
@@ -97,11 +97,11 @@ nearest_is f n p = nearest_only 750 f n (near f) (omega arith) p (near_nearest f
 
 -- ---- what `altitude` answers: never 0, never over 511
 
-module _ (f : ℤ) (n : AltSteps) (e : height_of f ≡ H.At n) where
+module _ (f : ℤ) (n : AltSteps) (e : height_of f ≡ Ok n) where
   answered_at : (altitude_of f ≤ 511) × (altitude_of f ≡ n.0)
   unfolding height_of height_refusal
   answered_at =
-      let q = answer_is H.Refused (H.At (record { 0 = altitude_of f })) (height_refusal f) (H.At n) (λ r z. zero_one (cc)) e in
+      let q = answer_is (record { 0 = altitude_of f }) (height_refusal f) n e in
       let low = leb-true _ _ (success_passed (height_checks f) refl q.0).0 in
       (omega arith, cc)
 
@@ -116,7 +116,7 @@ module _ (f : ℤ) (n : AltSteps) (e : height_of f ≡ H.At n) where
 -- ---- each answer of `altitude`, exactly
 
 module _ (f : ℤ) where
-  pub height_low : le_z f (pos 375) ≡ true → height_of f ≡ H.At (record { 0 = 1 })
+  pub height_low : le_z f (pos 375) ≡ true → height_of f ≡ Ok (record { 0 = 1 })
   unfolding height_of height_refusal altitude_of
   height_low p = rw p
 
@@ -128,16 +128,16 @@ module _ (f : ℤ) where
         let mine : Nearest 375 f (pos (near_alt (nat_abs f))) = subst (λ (z : ℤ). Nearest 375 z (pos (near_alt (nat_abs f)))) above (alt_nearest (nat_abs f)) in
         rw p (ap nat_abs (nearest_only 375 f (pos (near_alt (nat_abs f))) (pos n) (omega arith) mine nearest))
 
-    taken : n ≤ 511 → height_of f ≡ H.At (record { 0 = n })
+    taken : n ≤ 511 → height_of f ≡ Ok (record { 0 = n })
     unfolding height_of height_refusal
     taken h = rw (near_is, le-leb n 511 h)
 
-    refused : 511 < n → height_of f ≡ H.Refused (numbered out_of_range)
+    refused : 511 < n → height_of f ≡ Err (numbered out_of_range)
     unfolding height_of height_refusal
     refused h = rw (near_is, lt-leb n 511 h)
 
-    pub height_exactly : (height_of f ≡ H.At (record { 0 = n })) ↔ (n ≤ 511)
+    pub height_exactly : (height_of f ≡ Ok (record { 0 = n })) ↔ (n ≤ 511)
     height_exactly = (λ e. (height_range f (record { 0 = n }) e).1, taken)
 
-    pub too_high_exactly : (height_of f ≡ H.Refused (numbered out_of_range)) ↔ (511 < n)
-    too_high_exactly = (λ e. by_lt 511 n (λ h. h) (λ h. let q : H.At (record { 0 = n }) ≡ H.Refused (numbered out_of_range) = sym (taken h) ∙ e in zero_one (cc)), refused)
+    pub too_high_exactly : (height_of f ≡ Err (numbered out_of_range)) ↔ (511 < n)
+    too_high_exactly = (λ e. by_lt 511 n (λ h. h) (λ h. let q : Ok (record { 0 = n }) ≡ Err (numbered out_of_range) = sym (taken h) ∙ e in zero_one (cc)), refused)

@@ -5,15 +5,15 @@ use mathlib.Core.List.{List, []}
 use Prim.Native.Nat.{ℕ, suc, ◌+◌, ◌*◌, ◌≤◌, ◌<◌}
 use native.Mathlib.Numerals.{add-one}
 use native.Mathlib.Omega.{arith}
-use lib.IntN.{ℤ, pos, negsuc, ◌+ℤ◌, +ℤ_idl, +ℤ_idr, +ℤ_assoc}
+use lib.IntN.{ℤ, pos, negsuc, ◌+ℤ◌, +ℤ_idr, +ℤ_assoc}
 use lib.ListN.{length, get_or, drop}
 use lib.Seq.{drop-cons, drop-length}
 use mir.Syntax.{w32}
 use mir.Val.{SFits}
+use Rattle.std.specs.Prelude.{Option, Some, None}
 use Rattle.bits.specs.Tests.{pick, both}
 use Rattle.units.specs.Offsets.{is_offset, are_offsets, sum_z, summed_of}
 use Rattle.units.specs.declared.Feet.{Feet}
-use Rattle.units.specs.declared.Summed.TheVariants as S
 use Rattle.bits.proofs.TestLaws.{zero_one}
 use Rattle.units.proofs.Parts.{up, dn, side, add_le, sfits}
 use Rattle.units.proofs.Ranges.{within_parts}
@@ -29,9 +29,6 @@ pub record Summing (xs : List ℤ) (i : ℕ) (s : ℤ) : Type 0 where
 
 offset_parts : (x : ℤ) → is_offset x ≡ true → (up x ≤ 6144000) × (dn x ≤ 6144000)
 offset_parts x e = omega (arith, within_parts (negsuc 6143999) (pos 6144000) x e, side x)
-
-pub start : (xs : List ℤ) → length xs ≤ 8 → Summing xs 0 (pos 0)
-start xs h = record { at = omega arith; few = h; checked = refl; added = sym (+ℤ_idl (sum_z xs)); high = omega arith; low = omega arith }
 
 module _ (xs : List ℤ) (i : ℕ) (s : ℤ) (inv : Summing xs i s) (h : i < length xs) where
   split : are_offsets xs ≡ both (is_offset (get_or xs i (pos 0))) (are_offsets (drop (suc i) xs))
@@ -64,11 +61,11 @@ module _ (xs : List ℤ) (i : ℕ) (s : ℤ) (inv : Summing xs i s) (h : i < len
 
 -- ---- the answers
 
-pub refused : (xs : List ℤ) → are_offsets xs ≡ false → S.OutOfRange ≡ summed_of xs
+pub refused : (xs : List ℤ) → are_offsets xs ≡ false → None ≡ summed_of xs
 unfolding summed_of
 refused xs e = simp e
 
-pub done : (xs : List ℤ) (i : ℕ) (s : ℤ) → Summing xs i s → length xs ≤ i → S.To (record { 0 = s }) ≡ summed_of xs
+pub done : (xs : List ℤ) (i : ℕ) (s : ℤ) → Summing xs i s → length xs ≤ i → Some (record { 0 = s }) ≡ summed_of xs
 unfolding summed_of are_offsets sum_z
 done xs i s inv h =
     let n : i ≡ length xs = omega (arith, inv) in
@@ -79,18 +76,18 @@ done xs i s inv h =
 
 -- ---- what a sum says of its list
 
-pub summed_is : (xs : List ℤ) (s : Feet) → summed_of xs ≡ S.To s → (are_offsets xs ≡ true) × (sum_z xs ≡ s.0)
+pub summed_is : (xs : List ℤ) (s : Feet) → summed_of xs ≡ Some s → (are_offsets xs ≡ true) × (sum_z xs ≡ s.0)
 unfolding summed_of
 summed_is xs s = go (are_offsets xs)
   where
-    go : (b : Bool) → pick b (S.To (record { 0 = sum_z xs })) S.OutOfRange ≡ S.To s → (b ≡ true) × (sum_z xs ≡ s.0)
+    go : (b : Bool) → pick b (Some (record { 0 = sum_z xs })) None ≡ Some s → (b ≡ true) × (sum_z xs ≡ s.0)
     go true e = (refl, cc)
     go false e = zero_one (cc)
 
-pub summed_not : (xs : List ℤ) → summed_of xs ≡ S.OutOfRange → are_offsets xs ≡ false
+pub summed_not : (xs : List ℤ) → summed_of xs ≡ None → are_offsets xs ≡ false
 unfolding summed_of
 summed_not xs = go (are_offsets xs)
   where
-    go : (b : Bool) → pick b (S.To (record { 0 = sum_z xs })) S.OutOfRange ≡ S.OutOfRange → b ≡ false
+    go : (b : Bool) → pick {A = Option Feet} b (Some (record { 0 = sum_z xs })) None ≡ None → b ≡ false
     go true e = zero_one (cc)
     go false e = refl

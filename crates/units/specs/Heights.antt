@@ -1,12 +1,11 @@
 -- Altitude steps of 375 feet (01, 'Messages').
-use Rattle.std.specs.Prelude.{List, [], ◌∷◌, ℕ, ◌+◌, ◌/◌, leb, ℤ, pos, nat_abs}
+use Rattle.std.specs.Prelude.{List, [], ◌∷◌, ℕ, ◌+◌, ◌/◌, leb, ℤ, pos, nat_abs, Result, Ok, Err}
 use Rattle.std.specs.Int.Signed.{le_z}
 use Rattle.bits.specs.Tests.{pick}
-use Rattle.refusal.specs.Refusals.{numbered, success, out_of_range}
+use Rattle.refusal.specs.Refusals.{out_of_range}
 use Rattle.refusal.specs.Checks.{Check, check, first_refusal, answered}
 use Rattle.refusal.specs.declared.Refusal.{Refusal}
-use Rattle.units.specs.declared.Height.{Height}
-use Rattle.units.specs.declared.Height.TheVariants as H
+use Rattle.units.specs.declared.AltSteps.{AltSteps}
 
 -- the nearest step; 375 is odd, so there is no half
 unfoldable pub near_alt : ℕ → ℕ
@@ -24,14 +23,10 @@ unfoldable pub height_refusal : ℤ → Refusal
 height_refusal f = first_refusal (height_checks f)
 
 -- what `altitude` answers
-unfoldable pub height_of : ℤ → Height
-height_of f = answered H.Refused (height_refusal f) (H.At (record { 0 = altitude_of f }))
+unfoldable pub height_of : ℤ → Result AltSteps Refusal
+height_of f = answered (height_refusal f) (record { 0 = altitude_of f })
 
--- 01's number and place of each case, and the altitude: 0 where there is none
-abbrev pub refusal_in_height : Height → Refusal
-refusal_in_height (H.At n) = numbered success
-refusal_in_height (H.Refused r) = r
-
-abbrev pub altitude_in : Height → ℕ
-altitude_in (H.At n) = n.0
-altitude_in (H.Refused r) = 0
+-- the altitude of an answer: 0 where there is none
+abbrev pub altitude_in : Result AltSteps Refusal → ℕ
+altitude_in (Ok n) = n.0
+altitude_in (Err r) = 0

@@ -1,9 +1,8 @@
 -- Offsets in feet and their sum (01, 'The shift').
-use Rattle.std.specs.Prelude.{Bool, true, List, [], ◌∷◌, ℤ, pos, negsuc, ◌+ℤ◌}
+use Rattle.std.specs.Prelude.{Bool, true, List, [], ◌∷◌, ℤ, pos, negsuc, ◌+ℤ◌, Option, Some, None}
 use Rattle.std.specs.Int.Signed.{le_z}
 use Rattle.bits.specs.Tests.{pick, both}
-use Rattle.units.specs.declared.Summed.{Summed}
-use Rattle.units.specs.declared.Summed.TheVariants as S
+use Rattle.units.specs.declared.Feet.{Feet}
 
 -- from lo to hi, both included
 unfoldable pub within : ℤ → ℤ → ℤ → Bool
@@ -21,5 +20,6 @@ unfoldable pub sum_z : List ℤ → ℤ
 sum_z [] = pos 0
 sum_z (x ∷ xs) = x +ℤ sum_z xs
 
-unfoldable pub summed_of : List ℤ → Summed
-summed_of xs = pick (are_offsets xs) (S.To (record { 0 = sum_z xs })) S.OutOfRange
+-- their sum, if each is an offset
+unfoldable pub summed_of : List ℤ → Option Feet
+summed_of xs = pick (are_offsets xs) (Some (record { 0 = sum_z xs })) None

@@ -1,9 +1,8 @@
 -- Link steps of 750 feet (01, 'The shift').
-use Rattle.std.specs.Prelude.{Bool, suc, ◌+◌, ◌/◌, ℤ, pos, negsuc, neg_ℤ, ◌+ℤ◌, ◌*ℤ◌}
+use Rattle.std.specs.Prelude.{Bool, suc, ◌+◌, ◌/◌, ℤ, pos, negsuc, neg_ℤ, ◌+ℤ◌, ◌*ℤ◌, Option, Some, None}
 use Rattle.bits.specs.Tests.{pick}
 use Rattle.units.specs.Offsets.{within}
-use Rattle.units.specs.declared.Moved.{Moved}
-use Rattle.units.specs.declared.Moved.TheVariants as M
+use Rattle.units.specs.declared.LinkSteps.{LinkSteps}
 
 -- the step nearest to so many feet, a half away from zero: `near_nearest` in proofs/Nearest.antt says that it is
 unfoldable pub near : ℤ → ℤ
@@ -18,6 +17,6 @@ nearest_to old feet = near (pos 750 *ℤ old +ℤ feet)
 abbrev pub is_step : ℤ → Bool
 is_step z = within (negsuc 4095) (pos 4095) z
 
--- where a position moved by so many feet is
-unfoldable pub moved_by : ℤ → ℤ → Moved
-moved_by old feet = pick (is_step (nearest_to old feet)) (M.To (record { 0 = nearest_to old feet })) M.OutOfRange
+-- where a position moved by so many feet is, if that is a step
+unfoldable pub moved_by : ℤ → ℤ → Option LinkSteps
+moved_by old feet = pick (is_step (nearest_to old feet)) (Some (record { 0 = nearest_to old feet })) None

@@ -9,9 +9,10 @@ ghost use Rattle.std.specs.Int.{w32};
 ghost use Rattle.std.proofs.Common.{SFits};
 ghost use Rattle.units.specs.Offsets.{is_offset, summed_of};
 ghost use Rattle.units.specs.Steps.{near, moved_by};
-ghost use Rattle.units.specs.Heights.{height_of, refusal_in_height};
+ghost use Rattle.units.specs.Heights.{height_of};
 
 use refusal::Refusal;
+use std::ops::Add;
 
 // Feet.
 #[derive(Clone, Copy)]
@@ -25,60 +26,38 @@ pub struct LinkSteps(pub i16);
 #[derive(Clone, Copy)]
 pub struct AltSteps(pub u16);
 
-// What a list of offsets comes to.
-#[derive(Clone, Copy)]
-pub enum Summed {
-    To(Feet),
-    OutOfRange,
-}
-
-// Where a position has moved to.
-#[derive(Clone, Copy)]
-pub enum Moved {
-    To(LinkSteps),
-    OutOfRange,
-}
-
-// The altitude of so many feet, or the refusal.
-#[derive(Clone, Copy)]
-pub enum Height {
-    At(AltSteps),
-    Refused(Refusal),
-}
-
 fn is_offset(x: Feet) -> bool
     ensures { result ≡ is_offset x.0 }
 {
-    let f = x.0;
-    if f < -6144000 {
-        return false;
-    }
-    f <= 6144000
+    (-6144000..=6144000).contains(&x.0)
 }
 
-fn plus(a: Feet, b: Feet) -> Feet
-    requires { SFits w32 (a.0 +ℤ b.0) }
-    ensures { result.0 ≡ a.0 +ℤ b.0 }
-{
-    Feet(a.0 + b.0)
+impl Add for Feet {
+    type Output = Feet;
+
+    ghost can_add = { λ a b. SFits w32 (a.0 +ℤ b.0) };
+
+    ghost add_gives = { λ a b c. c.0 ≡ a.0 +ℤ b.0 };
+
+    fn add(self, more: Feet) -> Feet {
+        Feet(self.0 + more.0)
+    }
 }
 
 // The sum of a list of offsets, which become feet here.
-pub fn add_up(offsets: &[i32]) -> Summed
+pub fn add_up(offsets: &[i32]) -> Option<Feet>
     requires { length offsets.now ≤ 8 }
     ensures { result ≡ summed_of offsets.now }
 {
     let mut sum = Feet(0);
-    let mut i = 0;
-    while i < offsets.len() {
-        let x = Feet(offsets[i]);
+    for offset in offsets {
+        let x = Feet(*offset);
         if !is_offset(x) {
-            return Summed::OutOfRange;
+            return None;
         }
-        sum = plus(sum, x);
-        i += 1;
+        sum = sum + x;
     }
-    Summed::To(sum)
+    Some(sum)
 }
 
 // The number nearest to a 750th of a number, a half away from zero.
@@ -94,45 +73,29 @@ fn round(exact: i64) -> i64
 }
 
 // A position moved by so many feet. Here alone steps and feet meet: 750 times the old value plus the feet, rounded once.
-pub fn move_step(old: LinkSteps, by: Feet) -> Moved
+pub fn move_step(old: LinkSteps, by: Feet) -> Option<LinkSteps>
     ensures { result ≡ moved_by old.0 by.0 }
 {
-    let steps = old.0 as i64;
-    let feet = by.0 as i64;
-    let exact = 750 * steps + feet;
+    let exact = 750 * i64::from(old.0) + i64::from(by.0);
     let n = round(exact);
-    if n < -4096 {
-        return Moved::OutOfRange;
+    if (-4096..=4095).contains(&n) {
+        Some(LinkSteps(n as i16))
+    } else {
+        None
     }
-    if n > 4095 {
-        return Moved::OutOfRange;
-    }
-    Moved::To(LinkSteps(n as i16))
 }
 
 // The altitude of so many feet, never 0: 9.
-pub fn altitude(feet: Feet) -> Height
+pub fn altitude(feet: Feet) -> Result<AltSteps, Refusal>
     ensures { result ≡ height_of feet.0 }
 {
     let f = feet.0;
     if f <= 375 {
-        return Height::At(AltSteps(1));
+        return Ok(AltSteps(1));
     }
     let steps = (f as u32 + 187) / 375;
     if 511 < steps {
-        return Height::Refused(Refusal::of(refusal::OUT_OF_RANGE));
+        return Err(Refusal::of(refusal::OUT_OF_RANGE));
     }
-    Height::At(AltSteps(steps as u16))
-}
-
-impl Height {
-    // The answer as a number, a place and a bit.
-    pub fn refusal(self) -> Refusal
-        ensures { result ≡ refusal_in_height self }
-    {
-        match self {
-            Height::At(_) => Refusal::of(refusal::SUCCESS),
-            Height::Refused(r) => r,
-        }
-    }
+    Ok(AltSteps(steps as u16))
 }
