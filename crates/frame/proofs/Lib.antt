@@ -1,3 +1,4 @@
+mod EveryLaws
 pub mod ThreeTests
 pub mod FrameLaws
 pub mod LeadLaws

@@ -6,6 +6,7 @@
 ghost use Rattle.std.specs.Prelude.{◌≡◌, ◌+◌, ◌*◌, ◌≤◌};
 ghost use Rattle.std.specs.Int.Count.{count_leading_zeros};
 ghost use Rattle.bits.specs.Numbers.{num_of};
+ghost use Rattle.refusal.specs.Checks.{answered};
 ghost use Rattle.frame.specs.Frame.{start_good, marks_good, checks_good, frame_verdict, verdict_of, frame_at, LiesWhole};
 
 use refusal::Refusal;
@@ -15,14 +16,7 @@ fn is_started(octets: &[u8], position: usize) -> bool
     requires { LiesWhole octets.now position }
     ensures { result ≡ start_good (frame_at octets.now position) }
 {
-    let mut i = 0;
-    while i < 8 {
-        if bits::bit(octets, position + (i + 1)) != 0 {
-            return false;
-        }
-        i += 1;
-    }
-    true
+    (0..8).all(|i| bits::bit(octets, position + (i + 1)) == 0)
 }
 
 // The fifteen marks and the final one.
@@ -30,14 +24,8 @@ fn is_marked(octets: &[u8], position: usize) -> bool
     requires { LiesWhole octets.now position }
     ensures { result ≡ marks_good (frame_at octets.now position) }
 {
-    let mut g = 0;
-    while g < 15 {
-        if bits::bit(octets, position + (8 * g + 9)) != 1 {
-            return false;
-        }
-        g += 1;
-    }
-    bits::bit(octets, position + 128) == 1
+    (0..15).all(|g| bits::bit(octets, position + (8 * g + 9)) == 1)
+        && bits::bit(octets, position + 128) == 1
 }
 
 // Bit j of the fourteen data groups and check bit j, gathered as a number of fifteen bits.
@@ -46,10 +34,8 @@ pub fn column(octets: &[u8], position: usize, j: usize) -> u32
     ensures { result ≡ num_of (λ g. frame_at octets.now position (8 * g + 9 + j)) 15 }
 {
     let mut gathered: u32 = 0;
-    let mut g: usize = 0;
-    while g < 15 {
-        gathered |= (bits::bit(octets, position + (8 * g + 9 + j)) as u32) << g;
-        g += 1;
+    for g in 0..15 {
+        gathered |= u32::from(bits::bit(octets, position + (8 * g + 9 + j))) << g;
     }
     gathered
 }
@@ -59,31 +45,24 @@ fn is_checked(octets: &[u8], position: usize) -> bool
     requires { LiesWhole octets.now position }
     ensures { result ≡ checks_good (frame_at octets.now position) }
 {
-    let mut i = 0;
-    while i < 6 {
-        if u32::count_ones(column(octets, position, i + 1)) % 2 != 1 {
-            return false;
-        }
-        i += 1;
-    }
-    true
+    (0..6).all(|i| column(octets, position, i + 1).count_ones() % 2 == 1)
 }
 
-// What is wrong first with the frame at a position, or success. The check bits are counted last.
-pub fn verdict_at(octets: &[u8], position: usize) -> Refusal
+// What is wrong first with the frame at a position, if anything. The check bits are counted last.
+pub fn verdict_at(octets: &[u8], position: usize) -> Result<(), Refusal>
     requires { LiesWhole octets.now position }
-    ensures { result ≡ frame_verdict (frame_at octets.now position) }
+    ensures { result ≡ answered (frame_verdict (frame_at octets.now position)) tt }
 {
     if !is_started(octets, position) {
-        return Refusal::of(refusal::BAD_START);
+        return Err(Refusal::of(refusal::BAD_START));
     }
     if !is_marked(octets, position) {
-        return Refusal::of(refusal::BAD_MARK);
+        return Err(Refusal::of(refusal::BAD_MARK));
     }
     if !is_checked(octets, position) {
-        return Refusal::of(refusal::BAD_CHECK);
+        return Err(Refusal::of(refusal::BAD_CHECK));
     }
-    Refusal::of(refusal::SUCCESS)
+    Ok(())
 }
 
 // The zeros at the front of an octet. A good frame that begins so many bits behind the front of the octet before, 8 at most, has the
@@ -94,12 +73,12 @@ pub fn lead(octet: u8) -> u32
     u8::leading_zeros(octet)
 }
 
-// What is wrong first with an image, or success: 2, 3, 4, 5.
-pub fn verdict(image: &[u8]) -> Refusal
-    ensures { result ≡ verdict_of image.now }
+// What is wrong first with an image, if anything: 2, 3, 4, 5.
+pub fn verdict(image: &[u8]) -> Result<(), Refusal>
+    ensures { result ≡ answered (verdict_of image.now) tt }
 {
     if image.len() != 16 {
-        return Refusal::of(refusal::BAD_LENGTH);
+        return Err(Refusal::of(refusal::BAD_LENGTH));
     }
     verdict_at(image, 0)
 }

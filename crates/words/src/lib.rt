@@ -48,12 +48,10 @@ pub fn word(image: &[u8], k: usize) -> u64
 {
     let mirrored = mirroring();
     let mut gathered: u64 = 0;
-    let mut group: usize = 1;
-    while group <= GROUPS {
+    for group in 1..=GROUPS {
         let octet = image[data_group(k, group)];
-        let seven = mirrored[(octet & 127) as usize];
-        gathered = bits::place(gathered, BITS * (group as u32 - 1), BITS, seven as u64);
-        group += 1;
+        let seven = mirrored[usize::from(octet & 127)];
+        gathered = bits::place(gathered, BITS * (group as u32 - 1), BITS, u64::from(seven));
     }
     gathered
 }
@@ -64,12 +62,10 @@ fn put_message(image: &mut [u8], k: usize, word: u64)
     ensures { (image.new ≡ message_stored image.old k word) × (length image.new ≡ 16) }
 {
     let mirrored = mirroring();
-    let mut group: usize = 1;
-    while group <= GROUPS {
+    for group in 1..=GROUPS {
         let seven = bits::field(word, BITS * (group as u32 - 1), BITS);
         let octet = 128 | mirrored[seven as usize];
         image[data_group(k, group)] = octet;
-        group += 1;
     }
 }
 
@@ -79,10 +75,8 @@ fn check_octet(image: &[u8]) -> u8
     ensures { result ≡ check_octet image.now }
 {
     let mut checks: u8 = 0;
-    let mut i: usize = 0;
-    while i < 6 {
-        checks |= (((u32::count_ones(frame::column(image, 0, 6 - i)) + 1) % 2) as u8) << i;
-        i += 1;
+    for i in 0..6 {
+        checks |= (((frame::column(image, 0, 6 - i).count_ones() + 1) % 2) as u8) << i;
     }
     129 | (checks << 1)
 }

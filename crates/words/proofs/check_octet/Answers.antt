@@ -26,7 +26,7 @@ unfolding every
 framed = rule_at (λ x. bit_or 129 ((x * 2 ^ 1) % 2 ^ 8)) (λ x. 129 + x * 2) 64 refl
 
 pub loop-i-init : goal.loop-i-init
-loop-i-init c = (search rules, sym (num_none _))
+loop-i-init c = sym (num_none _)
 
 pub overflow_add-checks : goal.overflow_add-checks
 overflow_add-checks c =
@@ -36,15 +36,13 @@ overflow_add-checks c =
 pub loop-i-preserved : goal.loop-i-preserved
 loop-i-preserved c =
     let s = c.args.image.now in
-    let i = c.loop-i.i in (
-      search rules,
-      num_turn (check_at s) 8 i _ _ (search rules) (check_lt s) c.loop-i.invariant.1
-          (ap (λ (n : ℕ). (ones n + 1) % 2) c.column.ensures ∙ ap (λ (n : ℕ). (n + 1) % 2) (column_ones s 0 (6 - i) ∙ ap (λ (b : ℕ → ℕ). column_of b (6 - i)) (frame_0 s))),
-    )
+    let i = c.loop-i.i in
+    num_turn (check_at s) 8 i _ _ (search rules) (check_lt s) c.loop-i.invariant
+    (ap (λ (n : ℕ). (ones n + 1) % 2) c.column.ensures ∙ ap (λ (n : ℕ). (n + 1) % 2) (column_ones s 0 (6 - i) ∙ ap (λ (b : ℕ → ℕ). column_of b (6 - i)) (frame_0 s)))
 
 pub returns : goal.returns
 returns c =
     let s = c.args.image.now in
     let e : c.loop-i.i ≡ 6 = omega arith in
-    ap (λ (n : ℕ). bit_or 129 ((n * 2 ^ 1) % 2 ^ 8)) (c.loop-i.invariant.1 ∙ ap (num_of (check_at s)) e)
+    ap (λ (n : ℕ). bit_or 129 ((n * 2 ^ 1) % 2 ^ 8)) (c.loop-i.invariant ∙ ap (num_of (check_at s)) e)
     ∙ framed (num_of (check_at s) 6) (num_lt (check_at s) 6 (λ k _. check_lt s k))

@@ -13,7 +13,7 @@ use Rattle.words.proofs.PackingLaws.{group_written}
 use Rattle.words.proofs.put_message.Goals as goal
 
 pub loop-group-init : goal.loop-group-init
-loop-group-init c = (search rules, search rules, search rules, sym (written_none _ _ _))
+loop-group-init c = (search rules, sym (written_none _ _ _))
 
 pub bounds-mirrored-seven : goal.bounds-mirrored-seven
 bounds-mirrored-seven c = rw c.field-seven.ensures (mod-lt _ (lit< tt))
@@ -28,12 +28,5 @@ loop-group-preserved c =
     let octet = group_written _ c.mirroring-mirrored.ensures a.word l.group _ c.field-seven.ensures ∙ ap (data_octet a.word) this in
     let next : n + 1 ≡ l.group + 1 - 1 = omega arith in (
       search rules,
-      search rules,
-      search rules,
-      (λ i. set (l.invariant.3 i) (at i) (octet i)) ∙ sym (written_more _ _ _ n) ∙ ap (written _ _ _) next,
+      (λ i. set (l.invariant.1 i) (at i) (octet i)) ∙ sym (written_more _ _ _ n) ∙ ap (written _ _ _) next,
     )
-
-pub returns : goal.returns
-returns c =
-    let e : c.loop-group.group - 1 ≡ 7 = omega arith in
-    (c.loop-group.invariant.3 ∙ ap (written _ _ _) e, c.loop-group.invariant.2)
