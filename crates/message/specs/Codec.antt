@@ -5,8 +5,8 @@ use Rattle.layout.specs.Trouble.{Checked, trouble, misfit}
 use Rattle.layout.specs.Rules.{raw_of}
 use Rattle.refusal.specs.Refusals.{troubled}
 use Rattle.refusal.specs.Checks.{answered}
+use Rattle.refusal.specs.declared.Refusal.{Refusal}
 use Rattle.kind.specs.Layouts.{layout_of, whole_of}
-use Rattle.kind.specs.Tables.{padded}
 use Rattle.kind.specs.declared.Kind.{Kind}
 use Rattle.message.specs.Messages.{made_of, kind_of, parts_of}
 use Rattle.message.specs.declared.Message.{Message}
@@ -39,7 +39,7 @@ message_word msg = join 0 (whole_of (kind_of msg)) (tt, parts_of msg)
 unfoldable pub encoded_of : ℕ → Message → Result ℕ Refusal
 encoded_of place msg = answered (troubled place (message_trouble msg)) (message_word msg)
 
--- ---- the numbers of a message's fields, as the code has them
+-- ---- the values of its fields, as the code has them
 
 abbrev pub values_of : Message → List ℕ
-values_of msg = padded 12 (raw_of (layout_of (kind_of msg)) (parts_of msg))
+values_of msg = raw_of (layout_of (kind_of msg)) (parts_of msg)

@@ -21,6 +21,7 @@ use Rattle.words.specs.Words.{place_of, word_of, image_of}
 use Rattle.message.specs.Messages.{kind_of}
 use Rattle.kind.specs.Labels.{labelled_of, is_known, kind_named}
 use Rattle.message.specs.Codec.{message_trouble, message_word}
+use Rattle.kind.specs.declared.Kind.{Kind}
 use Rattle.message.specs.declared.Message.{Message}
 use Rattle.pair.specs.Pairs.{pair_of}
 use Rattle.pair.specs.Opening.{is_labelled, word_kind, word_trouble, word_message, first_word, second_word, open_checks, open_refusal, open_of, open_words, open_contents}
@@ -51,7 +52,7 @@ module _ (first second : Message) where
   -- ---- an image that opens closes to its zeroed image
 
   module _ (image : List ℕ) (opens : open_of image ≡ Ok (first, second)) where
-    answer : ((open_refusal image).number ≡ success) × (Ok (word_message (first_word image), word_message (second_word image)) ≡ Ok (first, second))
+    answer : ((open_refusal image).number ≡ success) × ◌≡◌ {A = Message × Message} (word_message (first_word image), word_message (second_word image)) (first, second)
     unfolding open_of
     answer = answer_is _ (open_refusal image) (first, second) opens
 
@@ -78,8 +79,8 @@ module _ (first second : Message) where
     opened_words =
         let p = passed.1.1.1.1 in
         let e = answer.1 in
-        let a : word_message (first_word image) ≡ first = cc in
-        let b : word_message (second_word image) ≡ second = cc in
+        let a = ap (λ (p : Message × Message). p.0) e in
+        let b = ap (λ (p : Message × Message). p.1) e in
         let kind_1 : kind_of first ≡ word_kind (first_word image) = sym (ap kind_of a) ∙ kind_read (word_kind (first_word image)) (first_word image) in
         let kind_2 : kind_of second ≡ word_kind (second_word image) = sym (ap kind_of b) ∙ kind_read (word_kind (second_word image)) (second_word image) in
         record {
@@ -175,7 +176,7 @@ opens_exactly image = (to, from)
 
 -- an image that opens does so as its two messages
 pub opened_as : (first second : Message) (image : List ℕ) → open_of image ≡ Ok (first, second) → open_of image ≡ Ok (word_message (first_word image), word_message (second_word image))
-opened_as first second image e = e ∙ sym (answer first second image e).1
+opened_as first second image e = e ∙ ap Ok (sym (answer first second image e).1)
 
 -- ---- 7, exactly: the pair is not in the table, where the checks before it are passed
 
@@ -211,7 +212,7 @@ module _ (image : List ℕ) (long : length image ≡ 16) (frame : good_frame (bi
   unfolding open_of
   seven_opened =
       let q = seven (pair_of (word_kind (first_word image)) (word_kind (second_word image))) (word_trouble (first_word image)) (word_trouble (second_word image)) in
-      let value = Ok (word_message (first_word image), word_message (second_word image)) in (
+      let value : Message × Message = (word_message (first_word image), word_message (second_word image)) in (
         λ e. q.0 (sym here ∙ (answer_not value (open_refusal image) (numbered bad_pair) e).0),
         λ e. answer_refused value (here ∙ q.1 e) (λ z. omega arith),
       )

@@ -12,13 +12,13 @@ use Rattle.layout.specs.declared.Cause.{Cause}
 use Rattle.layout.specs.declared.Cause.TheVariants.{Pattern, Spare, Unused, TooWide}
 use Rattle.layout.specs.Trouble.{Checked, nothing, wrong}
 use Rattle.refusal.specs.Refusals.{inside_at}
-use Rattle.refusal.specs.Checks.{inside}
+use Rattle.refusal.specs.Checks.{inside, refusal_in}
 use Rattle.words.specs.Words.{place_of, word_of}
 use Rattle.kind.specs.Layouts.{layout_of}
 use Rattle.message.specs.Messages.{kind_of, parts_of}
 use Rattle.message.specs.Codec.{message_trouble}
 use Rattle.message.specs.declared.Message.{Message}
-use Rattle.pair.specs.Opening.{word_kind, word_message, word_trouble, first_word, second_word, open_checks, open_refusal, open_of, refusal_in_opened}
+use Rattle.pair.specs.Opening.{word_kind, word_message, word_trouble, first_word, second_word, open_checks, open_refusal, open_of}
 use Rattle.pair.specs.Closing.{close_checks, close_refusal}
 use Rattle.bits.proofs.NumberLaws.{num_lt}
 use Rattle.bits.proofs.OctetLaws.{bit_lt}
@@ -49,12 +49,15 @@ narrow word = begins_narrow 6 (layout_of (word_kind word)) word
 word_number : (word : ℕ) → Numbered 12 14 (word_trouble word)
 word_number word = go (word_trouble word) (content_first (word_kind word) word)
   where
+    by : (c : Cause) (b : ℕ) → BeginsInside word c b → Numbered 12 14 (wrong c b)
+    by Pattern b f = (lit≤ tt, lit≤ tt)
+    by Spare b f = (lit≤ tt, lit≤ tt)
+    by Unused b f = (lit≤ tt, lit≤ tt)
+    by TooWide b f = absurd (narrow word b f)
+
     go : (t : Checked) → IsFirst (BeginsInside word) t → Numbered 12 14 t
     go (Ok u) f = tt
-    go (wrong Pattern b) f = (lit≤ tt, lit≤ tt)
-    go (wrong Spare b) f = (lit≤ tt, lit≤ tt)
-    go (wrong Unused b) f = (lit≤ tt, lit≤ tt)
-    go (wrong TooWide b) f = absurd (narrow word b f.0)
+    go (Err t) f = by t.cause t.bit f.0
 
 module _ (image : List ℕ) where
   -- a word of an image has no more than its 49 bits
@@ -79,7 +82,7 @@ module _ (image : List ℕ) where
       let w = second_word image in
       let tells = answer_tells (word_message v, word_message w) (open_checks image) refl in
       two_told (BeginsInside v) (BeginsInside w) (word_trouble v) (word_trouble w) (content_first (word_kind v) v) (content_first (word_kind w) w) place c b
-      (first_told (open_checks image) refl place c b (sym tells ∙ ap refusal_in_opened e)).1.1.1.1.1.1.1
+      (first_told (open_checks image) refl place c b (sym tells ∙ ap refusal_in e)).1.1.1.1.1.1.1
 
 -- ---- closing
 

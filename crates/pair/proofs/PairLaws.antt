@@ -18,7 +18,7 @@ use Rattle.message.specs.Codec.{content_trouble, message_in, content_of, message
 use Rattle.kind.specs.declared.Kind.{Kind}
 use Rattle.message.specs.declared.Message.{Message}
 use Rattle.pair.specs.Pairs.{pair_of}
-use Rattle.pair.specs.Opening.{first_word, second_word, word_message, open_refusal, open_of, word_checks, open_words, open_contents}
+use Rattle.pair.specs.Opening.{Opened, first_word, second_word, word_message, open_refusal, open_of, word_checks, open_words, open_contents}
 use Rattle.pair.specs.Closing.{close_refusal, close_image}
 use Rattle.refusal.proofs.CheckLaws.{more_refused, more_passed, given, stays, answer_refused, Refuses}
 use Rattle.message.proofs.CodecLaws.{content_good, content_refused, word_refused}

@@ -1,7 +1,7 @@
 -- Closing a pair into a buffer (01, 'Orders of checks'; 02, item 4).
-use Rattle.std.specs.Prelude.{◌≡◌, List, [], ◌∷◌, ℕ, eqb, length}
+use Rattle.std.specs.Prelude.{◌≡◌, List, [], ◌∷◌, ℕ, eqb, length, Result}
 use Rattle.refusal.specs.Refusals.{bad_length, bad_pair}
-use Rattle.refusal.specs.Checks.{Check, check, inside, first_refusal, on_success}
+use Rattle.refusal.specs.Checks.{Check, check, inside, first_refusal, on_success, answered}
 use Rattle.refusal.specs.declared.Refusal.{Refusal}
 use Rattle.words.specs.Words.{image_of}
 use Rattle.message.specs.Messages.{kind_of}
@@ -26,7 +26,7 @@ unfoldable pub close_image : Message → Message → List ℕ → List ℕ
 close_image first second buffer =
     on_success (close_refusal first second buffer) (image_of (message_word first) (message_word second)) buffer
 
--- the refusal that comes back, and the buffer afterwards
-abbrev pub Closed : Message → Message → List ℕ → Refusal → List ℕ → Type 0
-Closed first second buffer refusal after =
-    (refusal ≡ close_refusal first second buffer) × (after ≡ close_image first second buffer)
+-- the answer that comes back, and the buffer afterwards
+abbrev pub Closed : Message → Message → List ℕ → Result (Unit {0}) Refusal → List ℕ → Type 0
+Closed first second buffer answer after =
+    (answer ≡ answered (close_refusal first second buffer) tt) × (after ≡ close_image first second buffer)

@@ -1,5 +1,5 @@
 -- Opening an image (01, 'Orders of checks'; 02, item 4).
-use Rattle.std.specs.Prelude.{Bool, List, [], ◌∷◌, ℕ, eqb, length, Ok, Err}
+use Rattle.std.specs.Prelude.{Bool, List, [], ◌∷◌, ℕ, eqb, length, Ok, Err, Result}
 use Rattle.bits.specs.Octets.{bit_at}
 use Rattle.layout.specs.Trouble.{Checked}
 use Rattle.refusal.specs.Refusals.{numbered, success, bad_length, bad_start, bad_mark, bad_check, unknown_label, bad_pair}
@@ -58,13 +58,11 @@ unfoldable pub open_refusal : List ℕ → Refusal
 open_refusal image = first_refusal (open_checks image)
 
 -- what an image opens as: its two messages, or the refusal
+abbrev pub Opened : Type 0
+Opened = Result (Message × Message) Refusal
+
 unfoldable pub open_of : List ℕ → Opened
 open_of image = answered (open_refusal image) (word_message (first_word image), word_message (second_word image))
-
--- 01's number and place of each case, and 02's bit
-abbrev pub refusal_in_opened : Opened → Refusal
-refusal_in_opened (Ok (first, second)) = numbered success
-refusal_in_opened (Err r) = r
 
 -- ---- the steps of the code
 

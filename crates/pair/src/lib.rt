@@ -1,14 +1,11 @@
-// Pairs: which messages may share a frame, and what an image opens as.
+// Pairs: which messages may share a frame.
 
 #![tactic(auto)]
 
 ghost use Rattle.std.specs.Prelude.{◌≡◌};
 ghost use Rattle.pair.specs.Pairs.{pair_of};
-ghost use Rattle.pair.specs.Opening.{refusal_in_opened};
 
 use kind::Kind;
-use message::Message;
-use refusal::Refusal;
 
 const YES: bool = true;
 
@@ -33,23 +30,4 @@ pub fn is_pair(first: Kind, second: Kind) -> bool
     ensures { result ≡ pair_of first second }
 {
     PAIRS[kind::number(first)][kind::number(second)]
-}
-
-// What an image opens as: two messages, or the refusal.
-#[derive(Clone, Copy)]
-pub enum Opened {
-    Pair(Message, Message),
-    Refused(Refusal),
-}
-
-impl Opened {
-    // The answer as a number, a place and a bit.
-    pub fn refusal(self) -> Refusal
-        ensures { result ≡ refusal_in_opened self }
-    {
-        match self {
-            Opened::Pair(_, _) => Refusal::of(refusal::SUCCESS),
-            Opened::Refused(r) => r,
-        }
-    }
 }

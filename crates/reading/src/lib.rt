@@ -10,20 +10,16 @@ ghost use Rattle.message.specs.Messages.{mode_of, iff_from, track_from, amplifyi
 ghost use Rattle.message.specs.Codec.{message_in, content_of};
 
 use kind::Kind;
-use layout::Trouble;
-use message::{Amplifying, Content, Corner, Iff, Message, Mode, Strobe, Track};
+use message::{Amplifying, Corner, Iff, Message, Strobe, Track};
+use refusal::Refusal;
 use units::{AltSteps, LinkSteps};
 
 // The code of an absent mode is not looked at.
-fn read_mode(present: u64, code: u64) -> Mode
+fn read_mode(present: u64, code: u64) -> Option<u16>
     requires { code < 65536 }
     ensures { result ≡ mode_of (eqb present 1) code }
 {
-    if present == 1 {
-        Mode::Present(code as u16)
-    } else {
-        Mode::Absent
-    }
+    if present == 1 { Some(code as u16) } else { None }
 }
 
 fn read_iff(word: u64) -> Iff
@@ -130,13 +126,12 @@ fn read_message(k: Kind, word: u64) -> Message
     }
 }
 
-// The content of a word of a known kind, as message `place` of a frame: 12, 13, 14.
-pub fn read_content(place: u8, k: Kind, word: u64) -> Content
+// The message that a word of a known kind holds, as message `place` of a frame: 12, 13, 14.
+pub fn read_content(place: u8, k: Kind, word: u64) -> Result<Message, Refusal>
     ensures { result ≡ content_of place k word }
 {
-    let t = tables::find_trouble(k, word);
-    if let Trouble::Wrong(cause, bit) = t {
-        return Content::Refused(refusal::refuse(place, cause, bit));
+    match tables::find_trouble(k, word) {
+        Ok(()) => Ok(read_message(k, word)),
+        Err(trouble) => Err(refusal::refuse(place, trouble)),
     }
-    Content::Good(read_message(k, word))
 }

@@ -1,22 +1,19 @@
 -- `writing::encode` meets its contract. Assumes nothing.
-use mathlib.Core.Path.{sym, ap, ◌∙◌}
+use Rattle.std.proofs.Common.{sym, ap, ◌∙◌, Ok, Err}
 use Rattle.message.specs.Codec.{message_trouble, message_word}
 use Rattle.layout.proofs.RuleLaws.{packed_word, packed_wrong}
 use Rattle.message.proofs.CodecLaws.{word_right, word_wrong}
 use Rattle.writing.proofs.encode.Goals as goal
 
-pub returns-in-Word : goal.returns-in-Word
-returns-in-Word c =
-    let w = c in
-    let p = w in
-    let a = p.args in
-    let is = packed_word (message_trouble a.m) (message_word a.m) _ (sym p.pack.ensures ∙ w.in-Word.is) in
-    sym (word_right a.place a.m is.0 ∙ ap Word is.1)
+pub returns-in-Ok : goal.returns-in-Ok
+returns-in-Ok c =
+    let a = c.args in
+    let is = packed_word (message_trouble a.m) (message_word a.m) _ (sym c.pack.ensures ∙ c.in-Ok.is) in
+    sym (word_right a.place a.m is.0 ∙ ap Ok is.1)
 
-pub returns-in-Wrong : goal.returns-in-Wrong
-returns-in-Wrong c =
-    let w = c in
-    let p = w in
-    let a = p.args in
-    ap Refused c.refuse.ensures
-    ∙ sym (word_wrong a.place a.m _ _ (packed_wrong (message_trouble a.m) (message_word a.m) _ _ (sym p.pack.ensures ∙ w.in-Wrong.is)))
+pub returns-in-Err : goal.returns-in-Err
+returns-in-Err c =
+    let a = c.args in
+    let t = c.in-Err.trouble in
+    ap Err c.refuse.ensures
+    ∙ sym (word_wrong a.place a.m t.cause t.bit (packed_wrong (message_trouble a.m) (message_word a.m) t (sym c.pack.ensures ∙ c.in-Err.is)))

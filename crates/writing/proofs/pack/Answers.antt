@@ -1,66 +1,35 @@
--- `writing::pack` meets its contract. Assumes nothing.
-use mathlib.Core.Path.{◌≡◌, sym, ap, ◌∙◌}
-use Prim.Native.Nat.{◌+◌}
-use native.Mathlib.Omega.{arith}
-use borrow.Author.Rules.{rules}
-use Rattle.layout.specs.Layout.{join}
-use Rattle.layout.specs.Rules.{packed_if}
-use Rattle.layout.specs.Trouble.{misfit}
-use Rattle.kind.specs.Tables.{table_of}
-use Rattle.message.specs.Codec.{message_trouble, message_word}
-use Rattle.kind.specs.Layouts.{label_of, layout_of, whole_of}
-use Rattle.message.specs.Messages.{kind_of, parts_of}
-use Rattle.kind.specs.declared.Kind.{Kind}
-use Rattle.message.specs.declared.Message.{Message}
-use Rattle.layout.proofs.RuleLaws.{packed_layout}
-use Rattle.kind.proofs.TableLaws.{widths_are, widths_end, rules_are, rules_end, values_are, values_end, length_widths, length_rules, length_raw, wide, sound, label_lt}
+-- `writing::pack` meets its contract: the values of each kind, packed. Assumes nothing.
+use Rattle.std.proofs.Common.{refl}
+use Rattle.message.specs.declared.Message.TheVariants as m
+use Rattle.writing.proofs.PackLaws.{packs}
 use Rattle.writing.proofs.pack.Goals as goal
-use Rattle.writing.proofs.pack.Goals.{After-layout-table}
 
--- the fields packed above the label are the whole layout joined
-with_label : (m : Message)
-    → packed_if (misfit 6 (layout_of (kind_of m)) (parts_of m)) (join 6 (layout_of (kind_of m)) (parts_of m) + label_of (kind_of m))
-    ≡ packed_if (message_trouble m) (message_word m)
-unfolding message_trouble message_word
-with_label m =
-    let k = kind_of m in
-    let e : join 6 (layout_of k) (parts_of m) + label_of k ≡ join 0 (whole_of k) (tt, parts_of m) = omega arith in
-    ap (packed_if (misfit 6 (layout_of k) (parts_of m))) e
+pub returns-in-Blank : goal.returns-in-Blank
+returns-in-Blank c = rw c.in-Blank.is (packs m.Blank _ refl c.pack_as.ensures)
 
-table_is : (c : After-layout-table) → c.layout-table.result ≡ table_of (layout_of (kind_of c.args.m))
-table_is c = c.layout-table.ensures ∙ ap (λ (k : Kind). table_of (layout_of k)) c.kind_of-k.ensures
+pub returns-in-S0 : goal.returns-in-S0
+returns-in-S0 c = rw c.in-S0.is (packs m.S0 _ refl c.pack_as-in-S0.ensures)
 
-pub slice_bounds-pack-end : goal.slice_bounds-pack-end
-slice_bounds-pack-end c = let l = c in widths_end l.layout-table.result (kind_of c.args.m) (table_is (goal.at.slice_bounds-pack-end c).After-layout-table)
+pub returns-in-S3 : goal.returns-in-S3
+returns-in-S3 c = rw c.in-S3.is (packs (m.S3 c.in-S3.i) _ c.write_iff.ensures c.pack_as-in-S3.ensures)
 
-pub slice_bounds-pack-end-2 : goal.slice_bounds-pack-end-2
-slice_bounds-pack-end-2 c = let l = c in rules_end l.layout-table.result (kind_of c.args.m) (table_is (goal.at.slice_bounds-pack-end-2 c).After-layout-table)
+pub returns-in-S4 : goal.returns-in-S4
+returns-in-S4 c = rw c.in-S4.is (packs (m.S4 c.in-S4.t) _ c.write_track.ensures c.pack_as-in-S4.ensures)
 
-pub slice_bounds-pack-end-3 : goal.slice_bounds-pack-end-3
-slice_bounds-pack-end-3 c =
-    let v = c in
-    let l = v in
-    values_end l.layout-table.result (kind_of c.args.m) (table_is (goal.at.slice_bounds-pack-end-3 c).After-layout-table) (parts_of c.args.m) _ v.values-numbers.ensures
+pub returns-in-S4Plus : goal.returns-in-S4Plus
+returns-in-S4Plus c = rw c.in-S4Plus.is (packs (m.S4Plus c.in-S4Plus.t) _ c.write_track-in-S4Plus.ensures c.pack_as-in-S4Plus.ensures)
 
-pub pack-requires : goal.pack-requires
-pack-requires c =
-    let w = c in
-    let b = w in
-    let v = b in
-    let l = v in
-    let k = kind_of c.args.m in
-    let ws = layout_of k in
-    rw (w.wide8.ensures, b.label.ensures, widths_are l.layout-table.result k (table_is (goal.at.pack-requires c).After-layout-table), rules_are l.layout-table.result k (table_is (goal.at.pack-requires c).After-layout-table), values_are l.layout-table.result k (table_is (goal.at.pack-requires c).After-layout-table) (parts_of c.args.m) _ v.values-numbers.ensures, wide k)
-    (label_lt l.kind_of-k.result, search rules, length_widths ws ∙ sym (length_rules ws), length_widths ws ∙ sym (length_raw ws (parts_of c.args.m)))
+pub returns-in-S5 : goal.returns-in-S5
+returns-in-S5 c = rw c.in-S5.is (packs (m.S5 c.in-S5.a) _ c.write_amplifying.ensures c.pack_as-in-S5.ensures)
 
-pub returns : goal.returns
-returns c =
-    let w = c in
-    let b = w in
-    let v = b in
-    let l = v in
-    let m = c.args.m in
-    let k = kind_of m in
-    c.pack.ensures
-    ∙ rw (w.wide8.ensures, b.label.ensures, l.kind_of-k.ensures, widths_are l.layout-table.result k (table_is (goal.at.returns c).After-layout-table), rules_are l.layout-table.result k (table_is (goal.at.returns c).After-layout-table), values_are l.layout-table.result k (table_is (goal.at.returns c).After-layout-table) (parts_of m) _ v.values-numbers.ensures)
-    (packed_layout (label_of k) 6 (layout_of k) (parts_of m) (sound k) ∙ with_label m)
+pub returns-in-S6 : goal.returns-in-S6
+returns-in-S6 c = rw c.in-S6.is (packs (m.S6 c.in-S6.s) _ c.write_strobe.ensures c.pack_as-in-S6.ensures)
+
+pub returns-in-S8 : goal.returns-in-S8
+returns-in-S8 c = rw c.in-S8.is (packs (m.S8 c.in-S8.t) _ c.write_track-in-S8.ensures c.pack_as-in-S8.ensures)
+
+pub returns-in-S8Plus : goal.returns-in-S8Plus
+returns-in-S8Plus c = rw c.in-S8Plus.is (packs (m.S8Plus c.in-S8Plus.t) _ c.write_track-in-S8Plus.ensures c.pack_as-in-S8Plus.ensures)
+
+pub returns-in-S9 : goal.returns-in-S9
+returns-in-S9 c = rw c.in-S9.is (packs (m.S9 c.in-S9.c) _ c.write_corner.ensures c.pack_as-in-S9.ensures)
