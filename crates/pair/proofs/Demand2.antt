@@ -34,7 +34,7 @@ use Rattle.frame.proofs.FrameLaws.{good_parts, verdict_good, verdict_image}
 use Rattle.words.proofs.WordLaws.{image_good, length_image, image_first, image_second}
 use Rattle.message.proofs.RoundTrip.{Writes, read_written, kind_read, written_read}
 use Rattle.pair.proofs.ZeroedLaws.{zeroed_once, clear_own}
-use Rattle.pair.proofs.PairLaws.{open_good, words_by, in_table, close_good, buffer_written}
+use Rattle.pair.proofs.PairLaws.{open_good, words_by, in_table, close_good, closed_written}
 
 -- ---- a word whose label is known and whose content is legal
 
@@ -95,7 +95,7 @@ module _ (first second : Message) where
     opened_closes buffer sixteen =
         let x = opened_words in
         let e = close_good first second buffer sixteen x.paired x.one.0 x.two.0 in
-        (e, sym (buffer_written first second buffer e) ∙ ap₂ image_of x.one.1 x.two.1)
+        (e, sym (closed_written first second buffer e).1 ∙ ap₂ image_of x.one.1 x.two.1)
 
   -- ---- exactly the pairs of the table with legal content close
 
@@ -132,7 +132,7 @@ module _ (first second : Message) where
       let s = image_of v w in
       let good : (verdict_of s).number ≡ success =
       ap (λ (r : Refusal). r.number) (verdict_image s (length_image v w)) ∙ eqb-true _ _ (verdict_good (bit_at s) ∙ image_good v w) in
-      ap open_of (sym (buffer_written first second buffer e))
+      ap open_of (sym (closed_written first second buffer e).1)
       ∙ sym (open_good s good)
       ∙ ap₂ open_words (image_first v w (written_read first v x.one).short) (image_second v w (written_read second w x.two).short)
       ∙ closed_words v w x

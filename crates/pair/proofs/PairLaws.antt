@@ -19,8 +19,8 @@ use Rattle.kind.specs.declared.Kind.{Kind}
 use Rattle.message.specs.declared.Message.{Message}
 use Rattle.pair.specs.Pairs.{pair_of}
 use Rattle.pair.specs.Opening.{Opened, first_word, second_word, word_message, open_refusal, open_of, word_checks, open_words, open_contents}
-use Rattle.pair.specs.Closing.{close_refusal, close_image}
-use Rattle.refusal.proofs.CheckLaws.{more_refused, more_passed, given, stays, answer_refused, Refuses}
+use Rattle.pair.specs.Closing.{Closed, close_refusal, close_image}
+use Rattle.refusal.proofs.CheckLaws.{more_refused, more_passed, given, stays, answer_refused, Refuses, left_by, written_by}
 use Rattle.message.proofs.CodecLaws.{content_good, content_refused, word_refused}
 
 -- ---- opening: the frame's checks come first, then those of its words
@@ -110,12 +110,12 @@ module _ (first second : Message) (buffer : List ℕ) where
       unfolding close_refusal
       close_good one two = rw (size, paired, one, two)
 
-  -- on a refusal the buffer stays
-  pub buffer_stays : (r : Refusal) → close_refusal first second buffer ≡ r → Refuses r → buffer ≡ close_image first second buffer
+  -- a refusal is answered, and the buffer stays; else the image stands in it
+  pub closed_refused : (r : Refusal) → close_refusal first second buffer ≡ r → Refuses r → Closed first second buffer (Err r) buffer
   unfolding close_image
-  buffer_stays r e h = sym (stays (close_refusal first second buffer) _ buffer e h)
+  closed_refused r e h = left_by (close_refusal first second buffer) _ buffer r e h
 
-  pub buffer_written : close_refusal first second buffer ≡ numbered success
-      → image_of (message_word first) (message_word second) ≡ close_image first second buffer
+  pub closed_written : close_refusal first second buffer ≡ numbered success
+      → Closed first second buffer (Ok tt) (image_of (message_word first) (message_word second))
   unfolding close_image
-  buffer_written e = sym (given (close_refusal first second buffer) _ buffer (ap (λ (x : Refusal). x.number) e))
+  closed_written e = written_by (close_refusal first second buffer) _ buffer e

@@ -273,6 +273,14 @@ module _ {A : Type 0} (value : A) where
       go true f = sym (success_whole cs all (eqb-true _ _ f))
       go false f = refl
 
+-- a call that writes a buffer: a refusal is answered, and leaves what stood there; else what is written stands there
+module _ {A : Type 0} (r : Refusal) (new old : A) where
+  pub left_by : (s : Refusal) → r ≡ s → Refuses s → (Err s ≡ answered {A = Unit {0}} r tt) × (old ≡ on_success r new old)
+  left_by s e h = (sym (answer_refused tt e h), sym (stays r new old e h))
+
+  pub written_by : r ≡ numbered success → (Ok tt ≡ answered {A = Unit {0}} r tt) × (new ≡ on_success r new old)
+  written_by e = (sym (ap (λ (x : Refusal). answered x tt) e), sym (given r new old (ap (λ (x : Refusal). x.number) e)))
+
 -- a call whose checks come in two stages, where the first stage has an answer of its own: its refusal is passed up whole; where it refuses
 -- nothing the second stage decides
 module _ (cs ds : List Check) (all : all_refuse cs ≡ true) where
