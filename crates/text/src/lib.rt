@@ -2,14 +2,15 @@
 
 #![tactic(auto)]
 
-ghost use Rattle.std.specs.Prelude.{◌≡◌, ◌≢◌, ◌+◌, ◌*◌, ◌≤◌, ◌<◌, false, length, take};
+ghost use Rattle.std.specs.Prelude.{◌≡◌, ◌≢◌, ◌+◌, ◌*◌, ◌≤◌, ◌<◌, length, take, Err, IfOk, OnOk};
 ghost use Rattle.std.specs.Io.KnownBytes.{Appends, Consumes, IsAtEnd};
-ghost use Rattle.text.specs.Counts.{IsPrefixLen};
+ghost use Rattle.text.specs.Counts.{IsPrefixLen, count_of};
 ghost use Rattle.text.specs.Text.{dec_then, row};
 ghost use Rattle.text.specs.Wrote.{Wrote};
-ghost use Rattle.text.specs.declared.Outcome.TheVariants.{Written, Unread};
+ghost use Rattle.text.specs.declared.Failure.TheVariants.{Unread};
 
 use itoa::Buffer;
+use std::fmt::{self, Display, Formatter};
 use std::io::{Read, Write};
 
 // Puts text into out from index at on, and answers the index after it.
@@ -42,68 +43,70 @@ pub fn put_row(out: &mut [u8], at: usize, numbers: &[u64]) -> usize
 {
     let last = numbers.len() - 1;
     let mut next = at;
-    let mut i: usize = 0;
-    while i < last {
-        next = put_number(out, next, numbers[i], b' ');
-        i += 1;
+    for number in &numbers[..last] {
+        next = put_number(out, next, *number, b' ');
     }
     put_number(out, next, numbers[last], b'\n')
 }
 
-// How many octets were read, and whether a read failed.
+// A read that failed, after so many octets.
 #[derive(Clone, Copy)]
-pub struct Got {
+pub struct FailedRead {
     pub count: usize,
-    pub failed: bool,
 }
 
-// Reads until the space is full, the input ends or a read fails.
-pub fn read_all<R: Read>(from: &mut R, space: &mut [u8]) -> Got
-    ensures prefix_len { IsPrefixLen result.count space.new }
-    ensures read { Consumes (R.remaining from.old) (R.remaining from.new) (take result.count space.new) }
-    ensures whole { result.failed ≡ false → result.count < length space.new → IsAtEnd (R.remaining from.new) }
+// Reads until the space is full, the input ends or a read fails, and answers how many octets were read.
+pub fn read_all<R: Read>(from: &mut R, space: &mut [u8]) -> Result<usize, FailedRead>
+    ensures prefix_len { IsPrefixLen (count_of result) space.new }
+    ensures read { Consumes (R.remaining from.old) (R.remaining from.new) (take (count_of result) space.new) }
+    ensures whole { IfOk result (λ count. count < length space.new → IsAtEnd (R.remaining from.new)) }
 {
     let mut count: usize = 0;
     while count < space.len() {
         match from.read(&mut space[count..]) {
             Ok(0) => break,
             Ok(more) => count += more,
-            Err(_) => return Got {
-                count,
-                failed: true,
-            },
+            Err(_) => return Err(FailedRead { count }),
         }
     }
-    Got {
-        count,
-        failed: false,
-    }
+    Ok(count)
 }
 
-// What became of a program's input and output.
+// What went wrong with a program's input or output.
 #[derive(Clone, Copy)]
-pub enum Outcome {
-    Written,
+pub enum Failure {
     Unread,
     Unwritten,
 }
 
-// Writes a whole text.
-pub fn write<W: Write>(to: &mut W, text: &[u8]) -> Outcome
-    ensures whole { result ≡ Written → Appends (W.contents to.old) (W.contents to.new) text.now }
-    ensures not_read { result ≢ Unread }
-{
-    match to.write_all(text) {
-        Ok(()) => Outcome::Written,
-        Err(_) => Outcome::Unwritten,
+impl Display for Failure {
+    fn fmt<W: fmt::Write>(&self, f: &mut Formatter<W>) -> fmt::Result {
+        match self {
+            Failure::Unread => write!(f, "standard input cannot be read"),
+            Failure::Unwritten => write!(f, "standard output cannot be written"),
+        }
     }
 }
 
+impl From<FailedRead> for Failure {
+    ghost from_gives = { λ _ failure. failure ≡ Unread };
+
+    fn from(_: FailedRead) -> Failure {
+        Failure::Unread
+    }
+}
+
+// Writes a whole text.
+pub fn write<W: Write>(to: &mut W, text: &[u8]) -> Result<(), Failure>
+    ensures whole { OnOk result (Appends (W.contents to.old) (W.contents to.new) text.now) }
+    ensures not_read { result ≢ Err Unread }
+{
+    to.write_all(text).map_err(|_| Failure::Unwritten)
+}
+
 // Tells what went wrong on standard error, where the script that runs a program sees it.
-pub fn tell(rt: &impl Eprint, outcome: Outcome) {
-    let _ = match outcome {
-        Outcome::Written => Ok(()),
-        Outcome::Unread => rt.eprintln("standard input cannot be read"),
-        Outcome::Unwritten => rt.eprintln("standard output cannot be written"),
-    };
+pub fn tell(rt: &impl Eprint, outcome: Result<(), Failure>) {
+    if let Err(failure) = outcome {
+        let _ = rt.eprintln(failure);
+    }
 }

@@ -1,12 +1,10 @@
 -- Track number text (001, Annex C, Appendix 3, paragraph 6.2; 01, 'Messages'): two letters and three digits, three bits each,
 -- the first character in bits 19-21 and the last in bits 7-9.
-use Rattle.std.specs.Prelude.{◌≡◌, Bool, List, [], ◌∷◌, ℕ, suc, ◌+◌, ◌-◌, ◌*◌, ◌/◌, ◌%◌, eqb, leb, ltb, length, get_or}
+use Rattle.std.specs.Prelude.{◌≡◌, Bool, Option, Some, None, Result, Ok, Err, List, [], ◌∷◌, ℕ, suc, ◌+◌, ◌-◌, ◌*◌, ◌/◌, ◌%◌, eqb, leb, ltb, length, get_or}
 use Rattle.bits.specs.Tests.{pick, both, every}
-use Rattle.refusal.specs.Refusals.{numbered, success, bad_length, out_of_range}
+use Rattle.refusal.specs.Refusals.{bad_length, out_of_range}
 use Rattle.refusal.specs.Checks.{Check, check, first_refusal, on_success, answered}
 use Rattle.refusal.specs.declared.Refusal.{Refusal}
-use Rattle.track.specs.declared.Tracked.{Tracked}
-use Rattle.track.specs.declared.Tracked.TheVariants.{Number, Refused}
 
 -- A E G H J K L M, for 0 to 7
 abbrev pub letters : List ℕ
@@ -36,6 +34,10 @@ digit_code x = pick (both (leb 48 x) (leb x 55)) (x - 48) 8
 abbrev pub code_at : List ℕ → ℕ → ℕ
 code_at text i = pick (ltb i 2) (letter_code (get_or text i 0)) (digit_code (get_or text i 0))
 
+-- a code, if it is one: below 8
+abbrev pub code_if : ℕ → Option ℕ
+code_if code = pick (ltb code 8) (Some code) None
+
 -- ---- number to text: 2, then 9
 
 abbrev pub text_checks : ℕ → List ℕ → List Check
@@ -48,9 +50,9 @@ text_refusal n buffer = first_refusal (text_checks n buffer)
 unfoldable pub text_after : ℕ → List ℕ → List ℕ
 text_after n buffer = on_success (text_refusal n buffer) (text_of n) buffer
 
--- the refusal that comes back, and the buffer afterwards
-abbrev pub Spelled : ℕ → List ℕ → Refusal → List ℕ → Type 0
-Spelled n buffer refusal after = (refusal ≡ text_refusal n buffer) × (after ≡ text_after n buffer)
+-- the answer that comes back, and the buffer afterwards
+abbrev pub Spelled : ℕ → List ℕ → Result (Unit {0}) Refusal → List ℕ → Type 0
+Spelled n buffer answer after = (answer ≡ answered (text_refusal n buffer) tt) × (after ≡ text_after n buffer)
 
 -- ---- text to number: 2, then 9
 
@@ -61,6 +63,10 @@ is_text text = every (λ i. ltb (code_at text i) 8) 5
 abbrev pub text_number : List ℕ → ℕ
 text_number text = code_at text 0 * 4096 + code_at text 1 * 512 + code_at text 2 * 64 + code_at text 3 * 8 + code_at text 4
 
+-- the number of five characters, if they are a text
+abbrev pub number_if : List ℕ → Option ℕ
+number_if text = pick (is_text text) (Some (text_number text)) None
+
 abbrev pub track_checks : List ℕ → List Check
 track_checks text = check (eqb (length text) 5) bad_length ∷ check (is_text text) out_of_range ∷ []
 
@@ -68,14 +74,10 @@ unfoldable pub track_refusal : List ℕ → Refusal
 track_refusal text = first_refusal (track_checks text)
 
 -- what `track_number` answers
-unfoldable pub tracked_of : List ℕ → Tracked
-tracked_of text = answered Refused (track_refusal text) (Number (text_number text))
+unfoldable pub tracked_of : List ℕ → Result ℕ Refusal
+tracked_of text = answered (track_refusal text) (text_number text)
 
--- 01's number and place of each case, and the track number: 0 where there is none
-abbrev pub refusal_in_tracked : Tracked → Refusal
-refusal_in_tracked (Number n) = numbered success
-refusal_in_tracked (Refused r) = r
-
-abbrev pub number_in : Tracked → ℕ
-number_in (Number n) = n
-number_in (Refused r) = 0
+-- the track number of an answer: 0 where there is none
+abbrev pub number_in : Result ℕ Refusal → ℕ
+number_in (Ok n) = n
+number_in (Err r) = 0
