@@ -7,11 +7,12 @@ use native.Mathlib.Omega.{arith}
 use borrow.Author.Tests.{ne_eqb, lt-ltb, le-ltb}
 use lib.ListN.{length, take, get_or, set, length-set}
 use lib.Seq.{take-suc, take-suc-set, take_all}
+use Rattle.std.proofs.Common.{Ok, Err}
 use Rattle.refusal.specs.Refusals.{success, bad_level, bad_length, numbered}
 use Rattle.refusal.specs.declared.Refusal.{Refusal}
 use Rattle.frame.specs.Frame.{frame_verdict, verdict_of}
-use Rattle.line.specs.Sending.{next, levels_after, image_bits, send_refusal, send_levels}
-use Rattle.refusal.proofs.CheckLaws.{given, left}
+use Rattle.line.specs.Sending.{next, levels_after, image_bits, send_refusal, send_levels, Sent}
+use Rattle.refusal.proofs.CheckLaws.{given, left, answer_refused}
 use Rattle.frame.proofs.FrameLaws.{verdict_image}
 use Rattle.line.proofs.LevelLaws.{last_level, last_snoc, levels_snoc}
 
@@ -42,6 +43,13 @@ module _ (image : List ℕ) (previous : ℕ) (buffer : List ℕ) where
   pub buffer_written : (send_refusal image previous buffer).number ≡ success → levels_after previous (image_bits image) ≡ send_levels image previous buffer
   unfolding send_levels
   buffer_written e = sym (given (send_refusal image previous buffer) _ _ e)
+
+  -- the whole answer of a refusal, and of a success
+  pub sent_refused : (r : Refusal) → send_refusal image previous buffer ≡ r → (r.number ≡ success → ⊥) → Sent image previous buffer (Err r) buffer
+  sent_refused r e h = (sym (answer_refused tt e h), buffer_stays r e h)
+
+  pub sent_written : (send_refusal image previous buffer).number ≡ success → Sent image previous buffer (Ok tt) (levels_after previous (image_bits image))
+  sent_written e = (sym (given (send_refusal image previous buffer) _ _ e), buffer_written e)
 
 -- ---- the loop
 

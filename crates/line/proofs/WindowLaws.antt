@@ -8,7 +8,8 @@ use native.Mathlib.Omega.{arith}
 use lib.Dec.{lit<}
 use lib.Bits.{bit_or, or_shifted}
 use lib.ListN.{length, get_or}
-use lib.Pow.{shr-shr, mod-pow-add, mod-mod-pow, field, high, low}
+use lib.Pow.{shr-shr, shl_exact, mod-pow-add, mod-mod-pow, field, high, low}
+use Rattle.std.specs.Int.{w128, to_be_bytes}
 use Rattle.bits.specs.Numbers.{tab}
 use Rattle.bits.specs.Octets.{bit_at}
 use Rattle.line.specs.Machine.{pushed, window_image}
@@ -158,6 +159,18 @@ window_octets w v l =
 pub window_octet : (w : Window) (v : ℕ) → Low w v → (k : ℕ) → get_or (window_image w) k 0 < 256
 window_octet w v l k =
     subst (λ (s : List ℕ). get_or s k 0 < 256) (sym (window_octets w v l)) (tab_lt (octet_in v) 256 (λ o. mod-lt _ (lit< tt)) (lit< tt) 16 k)
+
+number_octets : (v : ℕ) → to_be_bytes w128 v ≡ tab (octet_in v) 16
+unfolding tab
+number_octets v = rw (div-one v) refl
+
+-- the window's octets are those of its 128 bits as one number
+pub window_bytes : (w : Window) → w.older < 2 ^ 64 → w.newer < 2 ^ 64
+    → to_be_bytes w128 (bit_or ((w.older * 2 ^ 64) % 2 ^ 128) w.newer) ≡ window_image w
+window_bytes w a b =
+    let v = w.older * 2 ^ 64 + w.newer in
+    ap (to_be_bytes w128) (ap (λ (n : ℕ). bit_or n w.newer) (shl_exact 64 64 128 a (omega arith)) ∙ or_shifted w.older 64 w.newer b)
+    ∙ number_octets v ∙ sym (window_octets w v (low_self w a b))
 
 -- a bit of the low octet of x
 octet_bit : (x k : ℕ) → k < 8 → x % 256 / 2 ^ k % 2 ≡ x / 2 ^ k % 2

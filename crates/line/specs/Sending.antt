@@ -1,10 +1,10 @@
 -- What is sent for an image (001, Annex A, Appendix 3, paragraph 4; 01, 'Orders of checks').
-use Rattle.std.specs.Prelude.{◌≡◌, not, List, [], ◌∷◌, ℕ, ◌+◌, ◌-◌, eqb, length}
+use Rattle.std.specs.Prelude.{◌≡◌, not, List, [], ◌∷◌, ℕ, ◌+◌, ◌-◌, eqb, length, Result}
 use Rattle.bits.specs.Tests.{pick}
 use Rattle.bits.specs.Numbers.{tab}
 use Rattle.bits.specs.Octets.{bit_at}
 use Rattle.refusal.specs.Refusals.{bad_level, bad_length, bad_start, bad_mark, bad_check}
-use Rattle.refusal.specs.Checks.{Check, check, first_refusal, on_success}
+use Rattle.refusal.specs.Checks.{Check, check, first_refusal, on_success, answered}
 use Rattle.refusal.specs.declared.Refusal.{Refusal}
 use Rattle.frame.specs.Frame.{start_good, marks_good, checks_good}
 use Rattle.line.specs.Levels.{refused}
@@ -40,7 +40,7 @@ send_refusal image previous buffer = first_refusal (send_checks image previous b
 unfoldable pub send_levels : List ℕ → ℕ → List ℕ → List ℕ
 send_levels image previous buffer = on_success (send_refusal image previous buffer) (levels_after previous (image_bits image)) buffer
 
--- the refusal that comes back, and the buffer afterwards
-abbrev pub Sent : List ℕ → ℕ → List ℕ → Refusal → List ℕ → Type 0
-Sent image previous buffer refusal after =
-    (refusal ≡ send_refusal image previous buffer) × (after ≡ send_levels image previous buffer)
+-- the answer, and the buffer afterwards
+abbrev pub Sent : List ℕ → ℕ → List ℕ → Result (Unit {0}) Refusal → List ℕ → Type 0
+Sent image previous buffer answer after =
+    (answer ≡ answered (send_refusal image previous buffer) tt) × (after ≡ send_levels image previous buffer)

@@ -23,7 +23,7 @@ impl Window {
     {
         Window {
             older: (self.older << 1) | (self.newer >> 63),
-            newer: (self.newer << 1) | (bit as u64),
+            newer: (self.newer << 1) | u64::from(bit),
         }
     }
 
@@ -31,26 +31,7 @@ impl Window {
     fn image(self) -> [u8; 16]
         ensures { result ≡ window_image self }
     {
-        let a = self.older;
-        let b = self.newer;
-        [
-            ((a >> 56) % 256) as u8,
-            ((a >> 48) % 256) as u8,
-            ((a >> 40) % 256) as u8,
-            ((a >> 32) % 256) as u8,
-            ((a >> 24) % 256) as u8,
-            ((a >> 16) % 256) as u8,
-            ((a >> 8) % 256) as u8,
-            (a % 256) as u8,
-            ((b >> 56) % 256) as u8,
-            ((b >> 48) % 256) as u8,
-            ((b >> 40) % 256) as u8,
-            ((b >> 32) % 256) as u8,
-            ((b >> 24) % 256) as u8,
-            ((b >> 16) % 256) as u8,
-            ((b >> 8) % 256) as u8,
-            (b % 256) as u8,
-        ]
+        ((u128::from(self.older) << 64) | u128::from(self.newer)).to_be_bytes()
     }
 }
 
@@ -59,8 +40,8 @@ pub fn idle() -> Window
     ensures { result ≡ idle_window }
 {
     Window {
-        older: 0xffff_ffff_ffff_ffff,
-        newer: 0xffff_ffff_ffff_ffff,
+        older: u64::MAX,
+        newer: u64::MAX,
     }
 }
 
@@ -90,10 +71,10 @@ pub fn hand_over(window: Window) -> Handed
         return hold_back();
     }
     let image = window.image();
-    if frame::verdict(&image).number == refusal::SUCCESS {
-        return Handed { frame: true, image };
+    match frame::verdict(&image) {
+        Ok(()) => Handed { frame: true, image },
+        Err(_) => hold_back(),
     }
-    hold_back()
 }
 
 // A receiver: whether a level has come, the last one, and the window.
@@ -117,7 +98,7 @@ pub struct Heard {
 fn change(before: u8, level: u8) -> u8
     ensures { result ≡ differ before level }
 {
-    if before == level { 0 } else { 1 }
+    u8::from(before != level)
 }
 
 impl Receiver {
@@ -125,11 +106,10 @@ impl Receiver {
     pub fn fresh() -> Receiver
         ensures { result ≡ fresh_of }
     {
-        let window = idle();
         Receiver {
             started: false,
             last: 0,
-            window,
+            window: idle(),
         }
     }
 
@@ -138,18 +118,13 @@ impl Receiver {
         requires { level ≤ 1 }
         ensures { result ≡ accepted self level }
     {
-        let window = self.window;
-        let started = true;
-        if self.started {
-            let longer = window.push(change(self.last, level));
-            return Receiver {
-                started,
-                last: level,
-                window: longer,
-            };
-        }
+        let window = if self.started {
+            self.window.push(change(self.last, level))
+        } else {
+            self.window
+        };
         Receiver {
-            started,
+            started: true,
             last: level,
             window,
         }
@@ -159,11 +134,11 @@ impl Receiver {
     fn answer(self, number: u8, handed: Handed) -> Heard
         ensures { result ≡ answer_with self number handed }
     {
-        let image = handed.image;
+        let Handed { frame, image } = handed;
         Heard {
             receiver: self,
             refusal: Refusal::of(number),
-            frame: handed.frame,
+            frame,
             image,
         }
     }

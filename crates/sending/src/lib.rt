@@ -21,30 +21,26 @@ fn put_levels(image: &[u8], previous: u8, levels: &mut [u8])
     ensures { levels.new ≡ levels_after previous (image_bits image.now) }
 {
     let mut level = previous;
-    let mut i = 0;
-    while i < 128 {
+    for (i, slot) in levels.iter_mut().enumerate() {
         level = tell(level, bits::bit(image, i + 1));
-        levels[i] = level;
-        i += 1;
+        *slot = level;
     }
 }
 
 // Sends a good image as 128 levels after the previous level: 2 image, 2 buffer, 1, 3, 4, 5.
-pub fn send(image: &[u8], previous: u8, levels: &mut [u8]) -> Refusal
+pub fn send(image: &[u8], previous: u8, levels: &mut [u8]) -> Result<(), Refusal>
     ensures { Sent image.now previous levels.old result levels.new }
 {
     if image.len() != 16 {
-        return Refusal::of(refusal::BAD_LENGTH);
+        return Err(Refusal::of(refusal::BAD_LENGTH));
     }
     if levels.len() != 128 {
-        return Refusal::of(refusal::BAD_LENGTH);
+        return Err(Refusal::of(refusal::BAD_LENGTH));
     }
     if 1 < previous {
-        return Refusal::of(refusal::BAD_LEVEL);
+        return Err(Refusal::of(refusal::BAD_LEVEL));
     }
-    let verdict = frame::verdict(image);
-    if verdict.number == refusal::SUCCESS {
-        put_levels(image, previous, levels);
-    }
-    verdict
+    frame::verdict(image)?;
+    put_levels(image, previous, levels);
+    Ok(())
 }

@@ -17,6 +17,7 @@ use Rattle.line.specs.declared.Window.{Window}
 use Rattle.refusal.specs.Refusals.{success}
 use Rattle.refusal.specs.declared.Refusal.{Refusal}
 use Rattle.bits.proofs.TestLaws.{never_true}
+use Rattle.refusal.proofs.CheckLaws.{answer_is, answer_not}
 use Rattle.frame.proofs.FrameLaws.{verdict_good, verdict_image, start_octet, mark_one}
 use Rattle.line.proofs.hand_over.Goals as goal
 
@@ -60,15 +61,14 @@ handed_is w image e f = rw (e, f)
 pub returns-then-window-ne1 : goal.returns-then-window-ne1
 returns-then-window-ne1 c = c.hold_back.ensures ∙ none_is _ (not_begun _ (search rules) c.if-window-ne1.true)
 
-pub returns-then-verdict-eq-SUCCESS : goal.returns-then-verdict-eq-SUCCESS
-returns-then-verdict-eq-SUCCESS c =
-    let v = c.verdict in
+pub returns-in-Ok : goal.returns-in-Ok
+returns-in-Ok c =
     let i = c.image-image in
-    handed_is _ _ (holds_is _ i.result true i.ensures (eq-eqb _ _ (sym (ap (λ (r : Refusal). r.number) v.ensures) ∙ c.if-verdict-eq-SUCCESS.true))) i.ensures
+    handed_is _ _ (holds_is _ i.result true i.ensures (eq-eqb _ _ (answer_is tt _ _ (sym c.in-Ok.ensures)).0)) i.ensures
 
-pub returns : goal.returns
-returns c =
-    let v = c.verdict in
+pub returns-in-Err : goal.returns-in-Err
+returns-in-Err c =
     let i = c.image-image in
-    c.hold_back-2.ensures
-    ∙ none_is _ (holds_is _ i.result false i.ensures (ne_eqb _ _ (λ e. c.if-verdict-eq-SUCCESS.false (ap (λ (r : Refusal). r.number) v.ensures ∙ e))))
+    let told = answer_not tt _ _ (sym c.in-Err.ensures) in
+    c.hold_back-in-Err.ensures
+    ∙ none_is _ (holds_is _ i.result false i.ensures (ne_eqb _ _ (λ z. told.1 (sym (ap (λ (r : Refusal). r.number) told.0) ∙ z))))

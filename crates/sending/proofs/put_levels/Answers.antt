@@ -11,12 +11,8 @@ loop-i-init c = sending_start _ _ _ c.requires.1 c.requires.2
 
 pub loop-i-preserved : goal.loop-i-preserved
 loop-i-preserved c =
-    let a = c.args in
     sending_more _ _ _ _ _ _ c.loop-i.invariant (search rules) (length_tab _ 128)
     (c.tell-level.ensures.0 ∙ ap (next _) (c.bit.ensures ∙ sym (get_or-tab _ 128 _ (search rules)))) c.tell-level.ensures.1
-
-pub shape_of-levels : goal.shape_of-levels
-shape_of-levels c = c.loop-i.invariant.long ∙ sym c.requires.2
 
 pub returns : goal.returns
 returns c = sending_done _ _ _ _ _ c.loop-i.invariant (length_tab _ 128) (search rules)
