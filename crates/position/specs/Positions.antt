@@ -26,15 +26,15 @@ position_of (S9 c) = corner_position c
 
 -- whether there is a position; X and Y in steps, 0 where there is none
 abbrev pub is_somewhere : Option Position → Bool
-is_somewhere (Some (record { x = x; y = y })) = true
+is_somewhere (Some p) = true
 is_somewhere None = false
 
 abbrev pub x_of : Option Position → ℤ
-x_of (Some (record { x = x; y = y })) = x.0
+x_of (Some p) = p.x.0
 x_of None = pos 0
 
 abbrev pub y_of : Option Position → ℤ
-y_of (Some (record { x = x; y = y })) = y.0
+y_of (Some p) = p.y.0
 y_of None = pos 0
 
 -- all else in the message stays

@@ -15,17 +15,17 @@ use Rattle.pair.specs.Pairs.{pair_of}
 use Rattle.pair.specs.Opening.{open_checks, open_refusal, open_of}
 use Rattle.pair.specs.Closing.{close_refusal, close_image}
 use Rattle.shift.specs.Shift.{shifted_by, shift_checks, pair_shifted}
-use Rattle.relay.specs.Relay.{first_message, second_message, pair_checks, relay_refusal, image_shifted, relay_image}
+use Rattle.relay.specs.Relay.{first_message, second_message, pair_checks, relay_refusal, image_shifted, relay_image, Relayed}
 use Rattle.bits.proofs.TestLaws.{zero_one}
-use Rattle.refusal.proofs.CheckLaws.{Refuses, Passed, success_passed, passed_success, given, stays, answer_is, answer_not, more_refused, more_passed}
+use Rattle.refusal.proofs.CheckLaws.{Refuses, Passed, success_passed, passed_success, given, left_by, answer_is, answer_not, more_refused, more_passed}
 use Rattle.pair.proofs.Demand2.{Legal, opened_closes, closes_legal, legal_closes}
 use Rattle.shift.proofs.Theorems.{shifted_kind, shifted_fits}
 
 module _ (image : List ℕ) (xs ys : List ℤ) (buffer : List ℕ) where
-  -- on a refusal the buffer stays
-  pub buffer_stays : (r : Refusal) → relay_refusal image xs ys buffer ≡ r → Refuses r → buffer ≡ relay_image image xs ys buffer
+  -- a refusal is answered, and the buffer stays
+  pub relayed_refused : (r : Refusal) → relay_refusal image xs ys buffer ≡ r → Refuses r → Relayed image xs ys buffer (Err r) buffer
   unfolding relay_image
-  buffer_stays r e h = sym (stays (relay_refusal image xs ys buffer) _ buffer e h)
+  relayed_refused r e h = left_by (relay_refusal image xs ys buffer) _ buffer r e h
 
   -- what opening refuses is passed up whole
   pub open_refused : (r : Refusal) → open_of image ≡ Err r → (relay_refusal image xs ys buffer ≡ r) × Refuses r
@@ -41,7 +41,7 @@ module _ (first second : Message) (image : List ℕ) (opens : open_of image ≡ 
   unfolding open_of
   messages =
       let p = answer_is (first_message image, second_message image) (open_refusal image) (first, second) opens in
-      let q = p.1 in (p.0, cc, cc)
+      (p.0, ap (λ (m : Message × Message). m.0) p.1, ap (λ (m : Message × Message). m.1) p.1)
 
   pub opened_legal : Legal first second
   opened_legal = closes_legal first second (replicate 16 0) (opened_closes first second image opens (replicate 16 0) refl).0
@@ -98,13 +98,12 @@ module _ (first second : Message) (image : List ℕ) (opens : open_of image ≡ 
     unfolding pair_shifted
     shift_closed a b e =
         let p = answer_is (shifted_by xs ys first, shifted_by xs ys second) (first_refusal (shift_checks first second xs ys)) (a, b) e in
-        let q = p.1 in
-        let is-a : shifted_by xs ys first ≡ a = cc in
-        let is_b : shifted_by xs ys second ≡ b = cc in
+        let is_a = ap (λ (m : Message × Message). m.0) p.1 in
+        let is_b = ap (λ (m : Message × Message). m.1) p.1 in
         let passed = success_passed (shift_checks first second xs ys) refl p.0 in
         let c = shifted_closes first second xs ys (opened_legal first second image opens) passed buffer sixteen in
         let good = good_buffer ∙ passed_success (shift_checks first second xs ys) passed in (
-          ap₂ (λ (m n : Message). close_refusal m n buffer) (sym is-a) (sym is_b) ∙ c.0 ∙ sym good,
-          ap₂ (λ (m n : Message). close_image m n buffer) (sym is-a) (sym is_b) ∙ c.1
+          ap₂ (λ (m n : Message). close_refusal m n buffer) (sym is_a) (sym is_b) ∙ c.0 ∙ sym good,
+          ap₂ (λ (m n : Message). close_image m n buffer) (sym is_a) (sym is_b) ∙ c.1
               ∙ sym (image_opened first second image opens xs ys buffer (ap (λ (r : Refusal). r.number) good)),
         )

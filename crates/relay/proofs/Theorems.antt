@@ -16,7 +16,7 @@ use Rattle.refusal.specs.Refusals.{numbered, success, inside_at}
 use Rattle.refusal.specs.declared.Refusal.{Refusal}
 use Rattle.units.specs.Offsets.{are_offsets, sum_z}
 use Rattle.message.specs.declared.Message.{Message}
-use Rattle.pair.specs.Opening.{open_of}
+use Rattle.pair.specs.Opening.{Opened, open_of}
 use Rattle.pair.specs.Closing.{close_refusal, close_image}
 use Rattle.pair.specs.ZeroedImage.{zeroed_image}
 use Rattle.position.specs.Positions.{position_of, is_somewhere, x_of, y_of}

@@ -1,7 +1,7 @@
 -- One relay step (02, item 6): an image is opened, each message that has a position is shifted, and the pair is closed into a buffer.
-use Rattle.std.specs.Prelude.{◌≡◌, List, ◌∷◌, ◌++◌, ℕ, eqb, ℤ, length}
+use Rattle.std.specs.Prelude.{◌≡◌, List, ◌∷◌, ◌++◌, ℕ, eqb, ℤ, length, Result}
 use Rattle.refusal.specs.Refusals.{bad_length}
-use Rattle.refusal.specs.Checks.{Check, check, first_refusal, on_success}
+use Rattle.refusal.specs.Checks.{Check, check, first_refusal, on_success, answered}
 use Rattle.refusal.specs.declared.Refusal.{Refusal}
 use Rattle.words.specs.Words.{image_of}
 use Rattle.message.specs.Codec.{message_word}
@@ -35,6 +35,7 @@ image_shifted first second xs ys = image_of (message_word (shifted_by xs ys firs
 unfoldable pub relay_image : List ℕ → List ℤ → List ℤ → List ℕ → List ℕ
 relay_image image xs ys buffer = on_success (relay_refusal image xs ys buffer) (image_shifted (first_message image) (second_message image) xs ys) buffer
 
--- the refusal that comes back, and the buffer afterwards
-abbrev pub Relayed : List ℕ → List ℤ → List ℤ → List ℕ → Refusal → List ℕ → Type 0
-Relayed image xs ys buffer refusal after = (refusal ≡ relay_refusal image xs ys buffer) × (after ≡ relay_image image xs ys buffer)
+-- the answer that comes back, and the buffer afterwards
+abbrev pub Relayed : List ℕ → List ℤ → List ℤ → List ℕ → Result (Unit {0}) Refusal → List ℕ → Type 0
+Relayed image xs ys buffer answer after =
+    (answer ≡ answered (relay_refusal image xs ys buffer) tt) × (after ≡ relay_image image xs ys buffer)

@@ -1,5 +1,5 @@
 -- What the shift's steps answer: the lists, then the first message, then the second. Assumes nothing.
-use mathlib.Core.Path.{◌≡◌, refl, sym, ap₂, ◌∙◌}
+use mathlib.Core.Path.{ap, ◌≡◌, refl, sym, ap₂, ◌∙◌}
 use mathlib.Core.Bool.{true}
 use mathlib.Core.List.{List, [], ◌∷◌}
 use mathlib.Core.Logic.{◌↔◌}
@@ -13,7 +13,7 @@ use Rattle.refusal.specs.Checks.{first_refusal, answered}
 use Rattle.refusal.specs.Table.{◌at◌, in_order}
 use Rattle.refusal.specs.declared.Refusal.{Refusal}
 use Rattle.units.specs.Offsets.{are_offsets, sum_z}
-use Rattle.units.specs.declared.Feet.{Feet}
+use Rattle.shift.specs.declared.Offset.{Offset}
 use Rattle.message.specs.declared.Message.{Message}
 use Rattle.shift.specs.Shift.{shifted, shifted_by, list_checks, result_checks, both_checks, shift_checks, pair_shifted, sums_of, both_shifted, shifted_of}
 use Rattle.bits.proofs.TestLaws.{zero_one}
@@ -33,7 +33,7 @@ module _ (first second : Message) (dx dy : ℤ) where
     unfolding shifted_of both_shifted
     first_moved =
         let p = stage_passed (result_checks first dx dy 1 2) (result_checks second dx dy 3 4) refl (shifted first dx dy) (shifted first dx dy, shifted second dx dy) a e in
-        let q = p.0 in (cc, p.1)
+        (p.0, p.1)
 
     pub second_refused : (r : Refusal) → shifted_of second dx dy 3 4 ≡ Err r → Err r ≡ both_shifted first second dx dy
     unfolding shifted_of
@@ -45,9 +45,7 @@ module _ (first second : Message) (dx dy : ℤ) where
     unfolding shifted_of
     both_moved b f =
         let p = stage_passed (result_checks second dx dy 3 4) [] refl (shifted second dx dy) (shifted first dx dy, shifted second dx dy) b f in
-        let q = p.0 in
-        let is : shifted second dx dy ≡ b = cc in
-        sym (ap₂ Ok (first_moved.0, is)) ∙ p.1 ∙ first_moved.1
+        sym (ap₂ (λ (m n : Message). Ok (m, n)) first_moved.0 p.0) ∙ p.1 ∙ first_moved.1
 
 -- ---- the lists, and then both messages
 
@@ -57,14 +55,12 @@ module _ (first second : Message) (xs ys : List ℤ) where
   lists_refused r e =
       stage_refused (list_checks xs ys) (both_checks first second (sum_z xs) (sum_z ys)) refl (record { x = record { 0 = sum_z xs }; y = record { 0 = sum_z ys } }) _ r e
 
-  pub lists_added : (dx dy : Feet) → sums_of xs ys ≡ Ok (record { x = dx; y = dy }) → both_shifted first second dx.0 dy.0 ≡ pair_shifted first second xs ys
+  pub lists_added : (by : Offset) → sums_of xs ys ≡ Ok by → both_shifted first second by.x.0 by.y.0 ≡ pair_shifted first second xs ys
   unfolding sums_of pair_shifted both_shifted
-  lists_added dx dy e =
-      let p = stage_passed (list_checks xs ys) (both_checks first second (sum_z xs) (sum_z ys)) refl (record { x = record { 0 = sum_z xs }; y = record { 0 = sum_z ys } }) (shifted_by xs ys first, shifted_by xs ys second) (record { x = dx; y = dy }) e in
-      let q = p.0 in
-      let a : sum_z xs ≡ dx.0 = cc in
-      let b : sum_z ys ≡ dy.0 = cc in
-      sym (ap₂ (both_shifted first second) a b) ∙ p.1
+  lists_added by e =
+      let sums : Offset = record { x = record { 0 = sum_z xs }; y = record { 0 = sum_z ys } } in
+      let p = stage_passed (list_checks xs ys) (both_checks first second (sum_z xs) (sum_z ys)) refl sums (shifted_by xs ys first, shifted_by xs ys second) by e in
+      sym (ap (λ (b : Offset). both_shifted first second b.x.0 b.y.0) p.0) ∙ p.1
 
   -- 2 X, 2 Y, 9 on X offsets, 9 on Y offsets, 9 on the first message's X and Y, 9 on the second's
   pub shift_order : in_order 12 14 (shift_checks first second xs ys) (2 at 1 ∷ 2 at 2 ∷ 9 at 1 ∷ 9 at 2 ∷ 9 at 1 ∷ 9 at 2 ∷ 9 at 3 ∷ 9 at 4 ∷ []) ≡ true

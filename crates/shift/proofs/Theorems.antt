@@ -43,7 +43,7 @@ module _ (m : Message) (dx dy : ℤ) where
     where
       go : (p : Option Position) → position_of m ≡ p → kind_of (shifted m dx dy) ≡ kind_of m
       go None e = ap kind_of (passes e)
-      go (Some (record { x = x; y = y })) e = ap kind_of (moved x y e) ∙ (placing m).kind _ _
+      go (Some p) e = ap kind_of (moved p.x p.y e) ∙ (placing m).kind _ _
 
   -- and all else
   pub shifted_else : shifted m dx dy ≡ placed_at m (x_of (position_of (shifted m dx dy))) (y_of (position_of (shifted m dx dy)))
@@ -51,7 +51,7 @@ module _ (m : Message) (dx dy : ℤ) where
     where
       go : (p : Option Position) → position_of m ≡ p → shifted m dx dy ≡ placed_at m (x_of (position_of (shifted m dx dy))) (y_of (position_of (shifted m dx dy)))
       go None e = rw (passes e) (sym (placing m).own)
-      go (Some (record { x = x; y = y })) e = let p = position_then x y e in moved x y e ∙ ap₂ (placed_at m) (sym (ap x_of p)) (sym (ap y_of p))
+      go (Some at) e = let p = position_then at.x at.y e in moved at.x at.y e ∙ ap₂ (placed_at m) (sym (ap x_of p)) (sym (ap y_of p))
 
   -- and fits again, if it did and its results are in range
   pub shifted_fits : message_trouble m ≡ nothing → x_lands (position_of m) dx ≡ true → y_lands (position_of m) dy ≡ true → message_trouble (shifted m dx dy) ≡ nothing
@@ -59,7 +59,7 @@ module _ (m : Message) (dx dy : ℤ) where
     where
       go : (p : Option Position) → position_of m ≡ p → x_lands p dx ≡ true → y_lands p dy ≡ true → message_trouble (shifted m dx dy) ≡ nothing
       go None e a b = ap message_trouble (passes e) ∙ none
-      go (Some (record { x = x; y = y })) e a b = ap message_trouble (moved x y e) ∙ (placing m).fit (ap is_somewhere e) none _ _ a b
+      go (Some p) e a b = ap message_trouble (moved p.x p.y e) ∙ (placing m).fit (ap is_somewhere e) none _ _ a b
 
 -- ---- the nearest steps: each axis is nearest to the exact sum in feet, and all else is as it was
 
@@ -81,12 +81,12 @@ shifted_nearby m xs ys = go (position_of m) refl
           y = λ h. absurd (clash h (ap is_somewhere e));
           still = λ h. passes m (sum_z xs) (sum_z ys) e;
         }
-    go (Some (record { x = x; y = y })) e =
-        let p = position_then m (sum_z xs) (sum_z ys) x y e in
+    go (Some at) e =
+        let p = position_then m (sum_z xs) (sum_z ys) at.x at.y e in
         record {
           else = shifted_else m (sum_z xs) (sum_z ys);
-          x = λ h. rw (p, e) (near_nearest (pos 750 *ℤ x.0 +ℤ sum_z xs));
-          y = λ h. rw (p, e) (near_nearest (pos 750 *ℤ y.0 +ℤ sum_z ys));
+          x = λ h. rw (p, e) (near_nearest (pos 750 *ℤ at.x.0 +ℤ sum_z xs));
+          y = λ h. rw (p, e) (near_nearest (pos 750 *ℤ at.y.0 +ℤ sum_z ys));
           still = λ h. absurd (clash (ap is_somewhere e) h);
         }
 
@@ -108,9 +108,9 @@ lands_exactly m xs ys = go (position_of m)
         ↔ (is_somewhere p ≡ true
         → ((n : ℤ) → Nearest 750 (pos 750 *ℤ x_of p +ℤ sum_z xs) n → is_step n ≡ true) × ((n : ℤ) → Nearest 750 (pos 750 *ℤ y_of p +ℤ sum_z ys) n → is_step n ≡ true))
     go None = (λ _ h. absurd (clash h refl), λ _. (refl, refl))
-    go (Some (record { x = x; y = y })) = (
-      λ l h. (axis (pos 750 *ℤ x.0 +ℤ sum_z xs) l.0, axis (pos 750 *ℤ y.0 +ℤ sum_z ys) l.1),
-      λ l. ((l refl).0 _ (near_nearest (pos 750 *ℤ x.0 +ℤ sum_z xs)), (l refl).1 _ (near_nearest (pos 750 *ℤ y.0 +ℤ sum_z ys))),
+    go (Some p) = (
+      λ l h. (axis (pos 750 *ℤ p.x.0 +ℤ sum_z xs) l.0, axis (pos 750 *ℤ p.y.0 +ℤ sum_z ys) l.1),
+      λ l. ((l refl).0 _ (near_nearest (pos 750 *ℤ p.x.0 +ℤ sum_z xs)), (l refl).1 _ (near_nearest (pos 750 *ℤ p.y.0 +ℤ sum_z ys))),
     )
 
 -- ---- empty lists: a message is shifted to itself, and lands
@@ -120,9 +120,9 @@ shifted_empty m = go (position_of m) refl
   where
     go : (p : Option Position) → position_of m ≡ p → shifted_by [] [] m ≡ m
     go None e = passes m (sum_z []) (sum_z []) e
-    go (Some (record { x = x; y = y })) e =
-        moved m (sum_z []) (sum_z []) x y e
-        ∙ ap₂ (placed_at m) (not_moved x.0 ∙ sym (ap x_of e)) (not_moved y.0 ∙ sym (ap y_of e))
+    go (Some p) e =
+        moved m (sum_z []) (sum_z []) p.x p.y e
+        ∙ ap₂ (placed_at m) (not_moved p.x.0 ∙ sym (ap x_of e)) (not_moved p.y.0 ∙ sym (ap y_of e))
         ∙ (placing m).own
 
 pub empty_lands : (m : Message) → message_trouble m ≡ nothing → (x_lands (position_of m) (sum_z []) ≡ true) × (y_lands (position_of m) (sum_z []) ≡ true)
@@ -130,9 +130,9 @@ empty_lands m none = go (position_of m) refl
   where
     go : (p : Option Position) → position_of m ≡ p → (x_lands p (sum_z []) ≡ true) × (y_lands p (sum_z []) ≡ true)
     go None e = (refl, refl)
-    go (Some (record { x = x; y = y })) e =
+    go (Some p) e =
         let r = (placing m).range (ap is_somewhere e) none in
-        (ap is_step (not_moved x.0 ∙ sym (ap x_of e)) ∙ r.0, ap is_step (not_moved y.0 ∙ sym (ap y_of e)) ∙ r.1)
+        (ap is_step (not_moved p.x.0 ∙ sym (ap x_of e)) ∙ r.0, ap is_step (not_moved p.y.0 ∙ sym (ap y_of e)) ∙ r.1)
 
 -- ---- there and back, by offsets and then by one offset on an axis
 
@@ -166,9 +166,9 @@ module _ (m : Message) (xs ys us vs : List ℤ) where
           let s = stays_gone e in
           let same : position_of back ≡ position_of m = ap position_of (passes gone (sum_z us) (sum_z vs) (ap position_of s ∙ e) ∙ s) in
           (λ t. ap x_of same, λ t. ap y_of same)
-      go (Some (record { x = x; y = y })) e =
-          let p = position_then gone (sum_z us) (sum_z vs) _ _ (position_gone x y e) in
-          (λ t. ap x_of p ∙ taken_back x.0 xs us t ∙ sym (ap x_of e), λ t. ap y_of p ∙ taken_back y.0 ys vs t ∙ sym (ap y_of e))
+      go (Some at) e =
+          let p = position_then gone (sum_z us) (sum_z vs) _ _ (position_gone at.x at.y e) in
+          (λ t. ap x_of p ∙ taken_back at.x.0 xs us t ∙ sym (ap x_of e), λ t. ap y_of p ∙ taken_back at.y.0 ys vs t ∙ sym (ap y_of e))
 
   -- both
   pub both_back : TakesBack xs us → TakesBack ys vs → back ≡ m
@@ -186,11 +186,11 @@ module _ (m : Message) (xs ys us vs : List ℤ) where
       go None e =
           let p = ap position_of (stays_gone e) ∙ e in
           (λ t. ap (λ (q : Option Position). x_lands q (sum_z us)) p, λ t. ap (λ (q : Option Position). y_lands q (sum_z vs)) p)
-      go (Some (record { x = x; y = y })) e =
-          let p = position_gone x y e in
+      go (Some at) e =
+          let p = position_gone at.x at.y e in
           let r = (placing m).range (ap is_somewhere e) none in (
-            λ t. ap (λ (q : Option Position). x_lands q (sum_z us)) p ∙ ap is_step (taken_back x.0 xs us t ∙ sym (ap x_of e)) ∙ r.0,
-            λ t. ap (λ (q : Option Position). y_lands q (sum_z vs)) p ∙ ap is_step (taken_back y.0 ys vs t ∙ sym (ap y_of e)) ∙ r.1,
+            λ t. ap (λ (q : Option Position). x_lands q (sum_z us)) p ∙ ap is_step (taken_back at.x.0 xs us t ∙ sym (ap x_of e)) ∙ r.0,
+            λ t. ap (λ (q : Option Position). y_lands q (sum_z vs)) p ∙ ap is_step (taken_back at.y.0 ys vs t ∙ sym (ap y_of e)) ∙ r.1,
           )
 
 -- a message that fits and lands was not moved by more than 6,144,000 feet
@@ -200,6 +200,6 @@ lands_near m xs ys h none = go (position_of m) refl
   where
     go : (p : Option Position) → position_of m ≡ p → x_lands p (sum_z xs) ≡ true → y_lands p (sum_z ys) ≡ true → (nat_abs (sum_z xs) ≤ 6144000) × (nat_abs (sum_z ys) ≤ 6144000)
     go None e a b = absurd (clash h (ap is_somewhere e))
-    go (Some (record { x = x; y = y })) e a b =
+    go (Some at) e a b =
         let r = (placing m).range h none in
-        (never_far x.0 xs (sym (ap (λ (p : Option Position). is_step (x_of p)) e) ∙ r.0) a, never_far y.0 ys (sym (ap (λ (p : Option Position). is_step (y_of p)) e) ∙ r.1) b)
+        (never_far at.x.0 xs (sym (ap (λ (p : Option Position). is_step (x_of p)) e) ∙ r.0) a, never_far at.y.0 ys (sym (ap (λ (p : Option Position). is_step (y_of p)) e) ∙ r.1) b)

@@ -2,17 +2,19 @@
 use Rattle.std.specs.Prelude.{Bool, true, List, [], ◌∷◌, ◌++◌, ℕ, leb, ℤ, length, Result, Option, Some, None}
 use Rattle.refusal.specs.Refusals.{bad_length, out_of_range}
 use Rattle.refusal.specs.Checks.{Check, check_at, first_refusal, answered}
+use Rattle.refusal.specs.declared.Refusal.{Refusal}
 use Rattle.units.specs.Offsets.{are_offsets, sum_z}
 use Rattle.units.specs.Steps.{nearest_to, is_step}
 use Rattle.message.specs.declared.Message.{Message}
 use Rattle.position.specs.Positions.{position_of, placed_at}
 use Rattle.position.specs.declared.Position.{Position}
+use Rattle.shift.specs.declared.Offset.{Offset}
 
 -- ---- one message, by dx and dy feet
 
 -- each axis goes to the step nearest to 750 times the old value plus the feet; a message without a position passes through
 abbrev pub shifted_from : Option Position → Message → ℤ → ℤ → Message
-shifted_from (Some (record { x = x; y = y })) m dx dy = placed_at m (nearest_to x.0 dx) (nearest_to y.0 dy)
+shifted_from (Some p) m dx dy = placed_at m (nearest_to p.x.0 dx) (nearest_to p.y.0 dy)
 shifted_from None m dx dy = m
 
 abbrev pub shifted : Message → ℤ → ℤ → Message
@@ -24,11 +26,11 @@ shifted_by xs ys m = shifted m (sum_z xs) (sum_z ys)
 
 -- whether the new X, and the new Y, is a step from -4096 to 4095; where there is no position nothing can be out of range
 abbrev pub x_lands : Option Position → ℤ → Bool
-x_lands (Some (record { x = x; y = y })) dx = is_step (nearest_to x.0 dx)
+x_lands (Some p) dx = is_step (nearest_to p.x.0 dx)
 x_lands None dx = true
 
 abbrev pub y_lands : Option Position → ℤ → Bool
-y_lands (Some (record { x = x; y = y })) dy = is_step (nearest_to y.0 dy)
+y_lands (Some p) dy = is_step (nearest_to p.y.0 dy)
 y_lands None dy = true
 
 -- ---- the checks

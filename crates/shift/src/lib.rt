@@ -9,59 +9,38 @@ ghost use Rattle.shift.specs.Shift.{sums_of, shifted_of};
 use message::Message;
 use position::Position;
 use refusal::Refusal;
-use units::{Feet, Moved, Summed};
+use units::Feet;
 
-// The sums of both lists, or the refusal of one.
+// How far on X and on Y.
 #[derive(Clone, Copy)]
-pub enum Sums {
-    Of(Feet, Feet),
-    Refused(Refusal),
+pub struct Offset {
+    pub x: Feet,
+    pub y: Feet,
 }
 
-// A message after the shift, or the refusal of a result.
-#[derive(Clone, Copy)]
-pub enum Shifted {
-    To(Message),
-    Refused(Refusal),
-}
-
-// Both messages after the shift, or the refusal of a list or a result.
-#[derive(Clone, Copy)]
-pub enum ShiftedPair {
-    Of(Message, Message),
-    Refused(Refusal),
-}
-
-pub fn add_both(xs: &[i32], ys: &[i32]) -> Sums
+// The sums of both lists: 2 X, 2 Y, 9 on X offsets, 9 on Y offsets.
+pub fn add_both(xs: &[i32], ys: &[i32]) -> Result<Offset, Refusal>
     ensures { result ≡ sums_of xs.now ys.now }
 {
     if 8 < xs.len() {
-        return Sums::Refused(Refusal::at(refusal::BAD_LENGTH, 1));
+        return Err(Refusal::at(refusal::BAD_LENGTH, 1));
     }
     if 8 < ys.len() {
-        return Sums::Refused(Refusal::at(refusal::BAD_LENGTH, 2));
+        return Err(Refusal::at(refusal::BAD_LENGTH, 2));
     }
-    let Summed::To(dx) = units::add_up(xs) else {
-        return Sums::Refused(Refusal::at(refusal::OUT_OF_RANGE, 1));
-    };
-    let Summed::To(dy) = units::add_up(ys) else {
-        return Sums::Refused(Refusal::at(refusal::OUT_OF_RANGE, 2));
-    };
-    Sums::Of(dx, dy)
+    let x = units::add_up(xs).ok_or(Refusal::at(refusal::OUT_OF_RANGE, 1))?;
+    let y = units::add_up(ys).ok_or(Refusal::at(refusal::OUT_OF_RANGE, 2))?;
+    Ok(Offset { x, y })
 }
 
 // A message without a position passes through. A result out of range is refused 9, at place px on X and py on Y.
-pub fn shift(m: Message, dx: Feet, dy: Feet, px: u8, py: u8) -> Shifted
-    ensures { result ≡ shifted_of m dx.0 dy.0 px py }
+pub fn shift(m: Message, by: Offset, px: u8, py: u8) -> Result<Message, Refusal>
+    ensures { result ≡ shifted_of m by.x.0 by.y.0 px py }
 {
-    let Position::At(x, y) = position::find_position(m) else {
-        return Shifted::To(m);
+    let Some(from) = position::find_position(m) else {
+        return Ok(m);
     };
-    let Moved::To(a) = units::move_step(x, dx) else {
-        return Shifted::Refused(Refusal::at(refusal::OUT_OF_RANGE, px));
-    };
-    let Moved::To(b) = units::move_step(y, dy) else {
-        return Shifted::Refused(Refusal::at(refusal::OUT_OF_RANGE, py));
-    };
-    Shifted::To(position::place(m, a, b))
+    let x = units::move_step(from.x, by.x).ok_or(Refusal::at(refusal::OUT_OF_RANGE, px))?;
+    let y = units::move_step(from.y, by.y).ok_or(Refusal::at(refusal::OUT_OF_RANGE, py))?;
+    Ok(position::place(m, Position { x, y }))
 }

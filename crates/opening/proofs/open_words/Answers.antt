@@ -2,7 +2,7 @@
 use Rattle.std.proofs.Common.{◌≡◌, rules, refl, sym, ap, ◌∙◌, Some, Err}
 use Rattle.kind.specs.Labels.{labelled_of}
 use Rattle.pair.proofs.PairLaws.{words_by, no_pair, in_table}
-use Rattle.opening.proofs.OkOr.{none_told, some_told}
+use Rattle.refusal.proofs.OkOr.{none_told, some_told}
 use Rattle.opening.proofs.open_words.Goals as goal
 use Rattle.opening.proofs.open_words.Goals.{After-is_pair}
 
