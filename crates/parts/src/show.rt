@@ -1,7 +1,7 @@
 // What is written of an answer, piece by piece.
 
-use crate::numbers;
 use refusal::Refusal;
+use std::fmt::Display;
 use std::io;
 use std::io::Write;
 
@@ -9,29 +9,27 @@ pub fn text<W: Write>(out: &mut W, t: &[u8]) -> io::Result<()> {
     out.write_all(t)
 }
 
-// A space and a number, which is below zero from 2^63 on.
-pub fn number<W: Write>(out: &mut W, n: u64) -> io::Result<()> {
-    if n == numbers::ABSENT {
-        return text(out, b" absent");
-    }
-    if n < numbers::ABSENT {
-        text(out, b" ")?;
-        return first_number(out, n);
-    }
-    text(out, b" -")?;
-    first_number(out, n.wrapping_neg())
+// A space and a number.
+pub fn number<W: Write, N: Display + Drop>(out: &mut W, n: N) -> io::Result<()> {
+    write!(out, " {n}")
 }
 
 // A number with no space before it.
-pub fn first_number<W: Write>(out: &mut W, n: u64) -> io::Result<()> {
+pub fn first_number<W: Write, N: Display + Drop>(out: &mut W, n: N) -> io::Result<()> {
     write!(out, "{n}")
+}
+
+// A space and a field's number, or that the field is absent.
+pub fn field<W: Write>(out: &mut W, n: Option<i64>) -> io::Result<()> {
+    match n {
+        Some(n) => number(out, n),
+        None => text(out, b" absent"),
+    }
 }
 
 // A refusal's number, place and bit, with no space before them.
 pub fn refusal<W: Write>(out: &mut W, r: Refusal) -> io::Result<()> {
-    first_number(out, r.number as u64)?;
-    number(out, r.place as u64)?;
-    number(out, r.bit as u64)
+    write!(out, "{} {} {}", r.number, r.place, r.bit)
 }
 
 // 64 bits in hexadecimal.
@@ -60,7 +58,7 @@ pub fn levels<W: Write>(out: &mut W, s: &[u8]) -> io::Result<()> {
 }
 
 fn is_plain(s: &[u8]) -> bool {
-    !s.is_empty() && s.iter().all(|c| 33 <= *c && *c <= 126)
+    !s.is_empty() && s.iter().all(|c| c.is_ascii_graphic())
 }
 
 // A space, and octets as a text behind an equals sign if they are one.
