@@ -31,7 +31,7 @@ fn take(window: Window, octet: u8, j: u32) -> Window
 {
     Window {
         older: (window.older << j) | (window.newer >> (64 - j)),
-        newer: (window.newer << j) | ((octet as u64) >> (8 - j)),
+        newer: (window.newer << j) | (u64::from(octet) >> (8 - j)),
     }
 }
 
@@ -40,7 +40,7 @@ fn take(window: Window, octet: u8, j: u32) -> Window
 fn lead(window: Window) -> u32
     ensures { (result ≡ lead_of window) × (result ≤ 8) }
 {
-    frame::lead(((window.older >> 48) % 256) as u8)
+    frame::lead(window.older.to_be_bytes()[1])
 }
 
 impl OctetReceiver {
@@ -48,8 +48,9 @@ impl OctetReceiver {
     pub fn fresh() -> OctetReceiver
         ensures { result ≡ fresh_octets }
     {
-        let window = line::idle();
-        OctetReceiver { window }
+        OctetReceiver {
+            window: line::idle(),
+        }
     }
 
     // No frame ended in the octet.
@@ -68,16 +69,16 @@ impl OctetReceiver {
     fn hear(self, handed: Handed, bit: u8) -> HeardOctet
         ensures { result ≡ heard_as self handed bit }
     {
-        let image = handed.image;
-        if handed.frame {
-            return HeardOctet {
-                receiver: self,
-                frame: true,
-                bit,
-                image,
-            };
+        let Handed { frame, image } = handed;
+        if !frame {
+            return self.hear_nothing();
         }
-        self.hear_nothing()
+        HeardOctet {
+            receiver: self,
+            frame,
+            bit,
+            image,
+        }
     }
 
     // One octet. Nothing is refused.

@@ -4,4 +4,5 @@ use Rattle.octets.proofs.TakeLaws.{take_is}
 use Rattle.octets.proofs.take.Goals as goal
 
 pub returns : goal.returns
-returns c = take_is _ _ _ (search rules) (search rules) (search rules) (search rules) (search rules)
+returns c =
+    rw c.from.ensures (take_is _ _ _ (search rules) (search rules) (search rules) (search rules) (search rules))
