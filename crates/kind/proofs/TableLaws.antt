@@ -1,13 +1,11 @@
 -- The kinds' tables are lawful: as long as they say, 43 bits wide, with sound fields; a row by its number. Assumes nothing.
-use mathlib.Core.Path.{◌≡◌, refl, sym, ap, ap₂, ◌∙◌}
+use mathlib.Core.Path.{◌≡◌, refl, sym, ap, ◌∙◌}
 use mathlib.Core.Bool.{Bool, true}
 use mathlib.Core.List.{List, [], ◌∷◌, map}
-use Prim.Native.Nat.{ℕ, zero, suc, ◌+◌, ◌-◌, ◌≤◌, ◌<◌}
-use native.Mathlib.Omega.{arith}
-use native.Mathlib.Nat.{le_of_suc-le-suc, not-suc-le-zero}
-use borrow.Author.Tests.{leb-true, ltb-true, eqb-true}
+use Prim.Native.Nat.{ℕ, suc, ◌+◌, ◌<◌}
+use borrow.Author.Tests.{ltb-true, eqb-true}
 use lib.Dec.{T, leb, ltb, eqb}
-use lib.ListN.{length, take, get_or}
+use lib.ListN.{length, get_or}
 use Rattle.bits.specs.Tests.{both}
 use Rattle.layout.specs.Layout.{Field, Values}
 use Rattle.layout.specs.Rules.{slots_of, raw_of, total}

@@ -1,7 +1,7 @@
 -- The kind that a word's label names (001, Annex A, Appendix 5, Table A5-1).
-use Rattle.std.specs.Prelude.{Bool, true, false, List, [], ◌∷◌, ℕ, ◌%◌, ◌^◌, eqb, Result, Ok, Err, Option, Some, None}
+use Rattle.std.specs.Prelude.{Bool, true, false, List, [], ◌∷◌, ℕ, ◌%◌, ◌^◌, eqb, Result, Option, Some, None}
 use Rattle.bits.specs.Tests.{pick}
-use Rattle.refusal.specs.Refusals.{numbered, success, unknown_label}
+use Rattle.refusal.specs.Refusals.{unknown_label}
 use Rattle.refusal.specs.Checks.{Check, check, first_refusal, answered}
 use Rattle.refusal.specs.declared.Refusal.{Refusal}
 use Rattle.kind.specs.Layouts.{all_kinds, label_of}

@@ -2,11 +2,11 @@
 use mathlib.Core.Path.{◌≡◌, refl, ap, ap₂, ◌∙◌}
 use mathlib.Core.Bool.{Bool, true, false, not}
 use mathlib.Core.List.{List, [], ◌∷◌}
-use Prim.Native.Nat.{ℕ, ◌+◌, ◌-◌, ◌*◌, ◌/◌, ◌%◌, ◌^◌, ◌≤◌, ◌<◌}
-use native.Mathlib.Nat.{zero-add, zero-div, mod-lt, lt_of_lt_of_le}
+use Prim.Native.Nat.{ℕ, ◌+◌, ◌*◌, ◌/◌, ◌^◌, ◌≤◌, ◌<◌}
+use native.Mathlib.Nat.{zero-add, mod-lt, lt_of_lt_of_le}
 use native.Mathlib.Numerals.{add-one}
 use native.Mathlib.Omega.{arith}
-use borrow.Author.Tests.{eq-eqb, eqb-false, le-leb, lt-leb, ltb-true}
+use borrow.Author.Tests.{eqb-false, ltb-true}
 use lib.Dec.{T, eqb, ltb, lit<, leb→le}
 use lib.ListN.{length, drop, get_or, drop_of_length-le}
 use lib.Pow.{pow_pos}
@@ -25,7 +25,7 @@ use Rattle.layout.specs.declared.Trouble.{Trouble}
 use Rattle.bits.proofs.TestLaws.{zero_one}
 use Rattle.layout.proofs.LayoutLaws.{is_sayable, are_sound, sayable, pattern_short, first_sound, rest_sound}
 use Rattle.layout.proofs.LowestLaws.{agreeing_enough}
-use Rattle.bits.proofs.NumberLaws.{num_bit, num_lt, placed_lt}
+use Rattle.bits.proofs.NumberLaws.{num_bit, placed_lt}
 
 -- ---- a rule says what its field allows
 

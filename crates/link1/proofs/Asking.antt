@@ -8,6 +8,7 @@ use Prim.Native.Nat.{ℕ, zero, suc, ◌-◌, ◌/◌, ◌%◌, ◌^◌}
 use lib.IntN.{ℤ, pos}
 use lib.ListN.{length, replicate}
 use Rattle.std.specs.Prelude.{Result, Ok, Err}
+use Rattle.refusal.specs.Checks.{refusal_in}
 use Rattle.refusal.specs.declared.Refusal.{Refusal}
 use Rattle.frame.specs.Frame.{verdict_of}
 use Rattle.line.specs.Machine.{heard_of, run}
@@ -18,6 +19,8 @@ use Rattle.octets.specs.declared.HeardOctet.{HeardOctet}
 use Rattle.capture.specs.Search.{search_of, position_found}
 use Rattle.capture.specs.Search as searching
 use Rattle.units.specs.Heights.{height_of}
+use Rattle.kind.specs.declared.Kind.{Kind}
+use Rattle.units.specs.declared.AltSteps.{AltSteps}
 use Rattle.units.specs.Heights as heights
 use Rattle.kind.specs.Layouts.{label_of}
 use Rattle.kind.specs.Labels.{named_of}
@@ -27,7 +30,7 @@ use Rattle.message.specs.declared.Message.{Message}
 use Rattle.message.specs.declared.Message.TheVariants as m
 use Rattle.track.specs.TrackText.{text_refusal, text_after, tracked_of, number_in}
 use Rattle.track.specs.TrackText as tracks
-use Rattle.pair.specs.Opening.{open_of, word_message, first_word}
+use Rattle.pair.specs.Opening.{Opened, open_of, word_message, first_word}
 use Rattle.pair.specs.Opening as opening
 use Rattle.pair.specs.Closing.{close_refusal, close_image}
 use Rattle.relay.specs.Relay.{relay_refusal, relay_image}
@@ -152,19 +155,19 @@ value_octet h = heard_in h.frame h.bit h.image
 
 unfoldable pub answer : Asked → Came
 answer (asked_verdict image) = tell (verdict_of image) nothing
-answer (open_image image) = tell (opening.refusal_in_opened (open_of image)) (value_opened (open_of image))
+answer (open_image image) = tell (refusal_in (open_of image)) (value_opened (open_of image))
 answer (name_track image) = name_of (track_in (word_message (first_word image))) (replicate 5 0)
-answer (kind_named label) = tell (labels.refusal_in_named (named_of label)) (value_named (named_of label))
+answer (kind_named label) = tell (refusal_in (named_of label)) (value_named (named_of label))
 answer (close_pair first second b) = tell (close_refusal first second b) (buffer (close_image first second b))
 answer (send_after level image b) = tell (send_refusal image level b) (buffer (send_levels image level b))
 answer (hear_after before level) = tell_heard (heard_of (run before) level)
 answer (hear_octets run) = told 0 0 (value_octet (heard_at run (length run - 1)))
 answer (search_from start capture) =
-    tell (searching.refusal_in_found (search_of capture start)) (value (position_found (search_of capture start)))
-answer (number_of text) = tell (tracks.refusal_in_tracked (tracked_of (octets text))) (value (number_in (tracked_of (octets text))))
+    tell (refusal_in (search_of capture start)) (value (position_found (search_of capture start)))
+answer (number_of text) = tell (refusal_in (tracked_of (octets text))) (value (number_in (tracked_of (octets text))))
 answer (text_of number b) = name_of number b
 answer (relay_by image xs ys b) = tell (relay_refusal image xs ys b) (buffer (relay_image image xs ys b))
-answer (asked_altitude feet) = tell (heights.refusal_in_height (height_of feet)) (value_height (height_of feet))
+answer (asked_altitude feet) = tell (refusal_in (height_of feet)) (value_height (height_of feet))
 
 -- ---- a row
 

@@ -26,6 +26,7 @@ use Rattle.frame.specs.Frame.{good_frame, frame_at}
 use Rattle.words.specs.Words.{place_of}
 use Rattle.sieve.specs.Capture.{good_at}
 use Rattle.units.specs.Nearest.{Nearest}
+use Rattle.units.specs.declared.AltSteps.{AltSteps}
 use Rattle.units.specs.Offsets.{are_offsets, sum_z}
 use Rattle.units.specs.Steps.{is_step}
 use Rattle.kind.specs.Layouts.{all_kinds, label_of, layout_of}
@@ -36,7 +37,7 @@ use Rattle.message.specs.Codec.{message_trouble}
 use Rattle.message.specs.declared.Message.{Message}
 use Rattle.track.specs.TrackText.{is_text, text_checks, text_refusal, tracked_of}
 use Rattle.pair.specs.Pairs.{is_in, pair_of}
-use Rattle.pair.specs.Opening.{is_labelled, word_kind, word_trouble, word_message, first_word, second_word, open_of}
+use Rattle.pair.specs.Opening.{Opened, is_labelled, word_kind, word_trouble, word_message, first_word, second_word, open_of}
 use Rattle.pair.specs.Closing.{close_checks, close_refusal}
 use Rattle.pair.specs.ZeroedImage.{zeroed_image, Clear}
 use Rattle.position.specs.Positions.{position_of, is_somewhere, x_of, y_of, placed_at}

@@ -39,7 +39,7 @@ use Rattle.line.specs.declared.Heard.{Heard}
 use Rattle.octets.specs.Feeding.{ends_at, heard_at}
 use Rattle.octets.specs.declared.OctetReceiver.{OctetReceiver}
 use Rattle.octets.specs.declared.HeardOctet.{HeardOctet}
-use Rattle.pair.specs.Opening.{word_kind, first_word, second_word}
+use Rattle.pair.specs.Opening.{Opened, word_kind, first_word, second_word}
 use Rattle.pair.specs.ZeroedImage.{zeroed_image}
 use Rattle.position.specs.Positions.{position_of, is_somewhere, x_of, y_of}
 use Rattle.relay.specs.Relay.{first_message, second_message, relay_refusal, relay_image}

@@ -9,7 +9,7 @@ use lib.IntN.{ℤ}
 use Rattle.std.specs.Prelude.{Result}
 use Rattle.bits.specs.Tests.{pick}
 use Rattle.refusal.specs.Refusals.{bad_level}
-use Rattle.refusal.specs.Checks.{Check, check, first_refusal}
+use Rattle.refusal.specs.Checks.{Check, check, first_refusal, refusal_in}
 use Rattle.refusal.specs.Table.{Step, ◌at◌, ◌to◌at◌, in_order, among}
 use Rattle.refusal.specs.declared.Refusal.{Refusal}
 use Rattle.frame.specs.Frame.{image_checks, verdict_of}
@@ -20,10 +20,13 @@ use Rattle.line.specs.declared.Receiver.{Receiver}
 use Rattle.line.specs.declared.Heard.{Heard}
 use Rattle.capture.specs.Search as searching
 use Rattle.units.specs.Heights as heights
+use Rattle.units.specs.declared.AltSteps.{AltSteps}
 use Rattle.kind.specs.Labels as labels
+use Rattle.kind.specs.declared.Kind.{Kind}
 use Rattle.message.specs.declared.Message.{Message}
 use Rattle.track.specs.TrackText as texts
 use Rattle.pair.specs.Opening as opening
+use Rattle.pair.specs.Opening.{Opened}
 use Rattle.pair.specs.Closing.{close_checks, close_refusal}
 use Rattle.relay.specs.Relay.{relay_checks, relay_refusal}
 use Rattle.refusal.proofs.CheckLaws.{AllNumbered, answer_tells, told_among}
@@ -52,11 +55,11 @@ verdict_order {image} j = tells 12 14 (image_checks image) _ refl tt (judged j)
 -- ---- open an image: 2, 3, 4, 5, 6 first message, 6 second, 7, 12 to 14 first, 12 to 14 second
 
 pub open_order : {image : List ℕ} {o : Opened} → Opens image o
-    → Tells 12 14 (opening.open_checks image) (2 at 0 ∷ 3 at 0 ∷ 4 at 0 ∷ 5 at 0 ∷ 6 at 1 ∷ 6 at 2 ∷ 7 at 0 ∷ 12 to 14 at 1 ∷ 12 to 14 at 2 ∷ []) (opening.refusal_in_opened o)
+    → Tells 12 14 (opening.open_checks image) (2 at 0 ∷ 3 at 0 ∷ 4 at 0 ∷ 5 at 0 ∷ 6 at 1 ∷ 6 at 2 ∷ 7 at 0 ∷ 12 to 14 at 1 ∷ 12 to 14 at 2 ∷ []) (refusal_in o)
 unfolding opening.open_of opening.open_refusal
 open_order {image} o =
     tells 12 14 (opening.open_checks image) _ refl (open_numbers image)
-    (ap opening.refusal_in_opened (opened o) ∙ answer_tells _ (opening.open_checks image) refl)
+    (ap refusal_in (opened o) ∙ answer_tells _ (opening.open_checks image) refl)
 
 -- ---- close a pair into a buffer: 2, 7, 14 or 15 first, 14 or 15 second
 
@@ -75,11 +78,11 @@ send_order {image} {previous} {buffer} s = tells 12 14 (send_checks image previo
 -- ---- search a capture: 2, 9, 10
 
 pub search_order : {capture : List ℕ} {start : ℕ} {f : Result ℕ Refusal} → Searches capture start f
-    → Tells 12 14 (searching.search_checks capture start) (2 at 0 ∷ 9 at 0 ∷ 10 at 0 ∷ []) (searching.refusal_in_found f)
+    → Tells 12 14 (searching.search_checks capture start) (2 at 0 ∷ 9 at 0 ∷ 10 at 0 ∷ []) (refusal_in f)
 unfolding searching.search_of searching.search_refusal
 search_order {capture} {start} f =
     tells 12 14 (searching.search_checks capture start) _ refl tt
-    (ap searching.refusal_in_found (searched f) ∙ answer_tells _ (searching.search_checks capture start) refl)
+    (ap refusal_in (searched f) ∙ answer_tells _ (searching.search_checks capture start) refl)
 
 -- ---- relay an image: opening's in their order, 2 on the output buffer, 2 X, 2 Y, 9 on X offsets, 9 on Y offsets, 9 on the first message's
 -- X and Y, 9 on the second's
@@ -98,19 +101,19 @@ pub text_order : {number : ℕ} {buffer after : List ℕ} {r : Refusal} → Spel
 unfolding texts.text_refusal
 text_order {number} {buffer} s = tells 12 14 (texts.text_checks number buffer) _ refl tt (spelled s).0
 
-pub number_order : {text : List ℕ} {t : Result ℕ Refusal} → Numbers text t → Tells 12 14 (texts.track_checks text) (2 at 0 ∷ 9 at 0 ∷ []) (texts.refusal_in_tracked t)
+pub number_order : {text : List ℕ} {t : Result ℕ Refusal} → Numbers text t → Tells 12 14 (texts.track_checks text) (2 at 0 ∷ 9 at 0 ∷ []) (refusal_in t)
 unfolding texts.tracked_of texts.track_refusal
 number_order {text} t =
     tells 12 14 (texts.track_checks text) _ refl tt
-    (ap texts.refusal_in_tracked (numbered_as t) ∙ answer_tells _ (texts.track_checks text) refl)
+    (ap refusal_in (numbered_as t) ∙ answer_tells _ (texts.track_checks text) refl)
 
 -- ---- feet to altitude: 9; a level: 1; a label alone: 6 (ours: docs/CONTRACTS.md, 'Exemptions')
 
-pub altitude_order : {feet : ℤ} {h : Result AltSteps Refusal} → Climbs feet h → Tells 12 14 (heights.height_checks feet) (9 at 0 ∷ []) (heights.refusal_in_height h)
+pub altitude_order : {feet : ℤ} {h : Result AltSteps Refusal} → Climbs feet h → Tells 12 14 (heights.height_checks feet) (9 at 0 ∷ []) (refusal_in h)
 unfolding heights.height_of heights.height_refusal
 altitude_order {feet} h =
     tells 12 14 (heights.height_checks feet) _ refl tt
-    (ap heights.refusal_in_height (climbed h) ∙ answer_tells _ (heights.height_checks feet) refl)
+    (ap refusal_in (climbed h) ∙ answer_tells _ (heights.height_checks feet) refl)
 
 pub level_order : {s : Receiver} {level : ℕ} {h : Heard} → Steps s level h → Tells 12 14 (check (not (refused level)) bad_level ∷ []) (1 at 0 ∷ []) h.refusal
 level_order {s} {level} h =
@@ -120,8 +123,8 @@ level_order {s} {level} h =
     by true = refl
     by false = refl
 
-pub label_order : {label : ℕ} {n : Result Kind Refusal} → Names label n → Tells 12 14 (labels.name_checks label) (6 at 0 ∷ []) (labels.refusal_in_named n)
+pub label_order : {label : ℕ} {n : Result Kind Refusal} → Names label n → Tells 12 14 (labels.name_checks label) (6 at 0 ∷ []) (refusal_in n)
 unfolding labels.named_of labels.name_refusal
 label_order {label} n =
     tells 12 14 (labels.name_checks label) _ refl tt
-    (ap labels.refusal_in_named (named n) ∙ answer_tells _ (labels.name_checks label) refl)
+    (ap refusal_in (named n) ∙ answer_tells _ (labels.name_checks label) refl)

@@ -11,7 +11,6 @@ use Rattle.refusal.specs.declared.Refusal.{Refusal}
 use Rattle.kind.specs.declared.Kind.{Kind}
 use Rattle.message.specs.Codec.{content_trouble, message_in, content_of, message_trouble, message_word, encoded_of}
 use Rattle.message.specs.declared.Message.{Message}
-use Rattle.bits.proofs.TestLaws.{zero_one}
 use Rattle.refusal.proofs.CheckLaws.{Refuses, inside_wrong, inside_value, inside_refused}
 
 module _ (place : ℕ) (k : Kind) (w : ℕ) where

@@ -8,7 +8,7 @@ use Rattle.std.specs.Prelude.{Ok, Err}
 use Rattle.layout.specs.Begins.{Begins, Misfits, IsFirst}
 use Rattle.layout.specs.Rules.{slots_of, total}
 use Rattle.layout.specs.declared.Cause.{Cause}
-use Rattle.layout.specs.Trouble.{Checked, nothing, wrong}
+use Rattle.layout.specs.Trouble.{Checked}
 use Rattle.kind.specs.Layouts.{layout_of}
 use Rattle.kind.specs.declared.Kind.{Kind}
 use Rattle.message.specs.Messages.{kind_of, parts_of}

@@ -12,7 +12,7 @@ use lib.ListN.{length}
 use Rattle.std.specs.Prelude.{Ok, Err, Option, Some, None}
 use Rattle.bits.specs.Tests.{both}
 use Rattle.bits.specs.Octets.{AreOctets, bit_at}
-use Rattle.layout.specs.Trouble.{Checked, nothing, wrong}
+use Rattle.layout.specs.Trouble.{Checked, nothing}
 use Rattle.refusal.specs.Refusals.{numbered, success, bad_pair}
 use Rattle.refusal.specs.Checks.{check, inside, first_refusal}
 use Rattle.refusal.specs.declared.Refusal.{Refusal}
@@ -27,7 +27,7 @@ use Rattle.pair.specs.Pairs.{pair_of}
 use Rattle.pair.specs.Opening.{is_labelled, word_kind, word_trouble, word_message, first_word, second_word, open_checks, open_refusal, open_of, open_words, open_contents}
 use Rattle.pair.specs.Closing.{close_checks, close_refusal, close_image}
 use Rattle.pair.specs.ZeroedImage.{message_of, zeroed_word, zeroed_image, Clear}
-use Rattle.bits.proofs.TestLaws.{clash, zero_one}
+use Rattle.bits.proofs.TestLaws.{clash}
 use Rattle.bits.proofs.OctetLaws.{bit_lt}
 use Rattle.refusal.proofs.CheckLaws.{Passed, success_passed, passed_success, given, answer_is, answer_not, answer_refused, cause_number_lem}
 use Rattle.frame.proofs.FrameLaws.{good_parts, verdict_good, verdict_image}

@@ -20,7 +20,7 @@ use Rattle.message.specs.declared.Message.{Message}
 use Rattle.pair.specs.Pairs.{pair_of}
 use Rattle.pair.specs.Opening.{Opened, first_word, second_word, word_message, open_refusal, open_of, word_checks, open_words, open_contents}
 use Rattle.pair.specs.Closing.{Closed, close_refusal, close_image}
-use Rattle.refusal.proofs.CheckLaws.{more_refused, more_passed, given, stays, answer_refused, Refuses, left_by, written_by}
+use Rattle.refusal.proofs.CheckLaws.{more_refused, more_passed, answer_refused, Refuses, left_by, written_by}
 use Rattle.message.proofs.CodecLaws.{content_good, content_refused, word_refused}
 
 -- ---- opening: the frame's checks come first, then those of its words

@@ -1,8 +1,8 @@
 -- Opening an image (01, 'Orders of checks'; 02, item 4).
-use Rattle.std.specs.Prelude.{Bool, List, [], ◌∷◌, ℕ, eqb, length, Ok, Err, Result}
+use Rattle.std.specs.Prelude.{Bool, List, [], ◌∷◌, ℕ, eqb, length, Result}
 use Rattle.bits.specs.Octets.{bit_at}
 use Rattle.layout.specs.Trouble.{Checked}
-use Rattle.refusal.specs.Refusals.{numbered, success, bad_length, bad_start, bad_mark, bad_check, unknown_label, bad_pair}
+use Rattle.refusal.specs.Refusals.{bad_length, bad_start, bad_mark, bad_check, unknown_label, bad_pair}
 use Rattle.refusal.specs.Checks.{Check, check, check_at, inside, first_refusal, answered}
 use Rattle.refusal.specs.declared.Refusal.{Refusal}
 use Rattle.frame.specs.Frame.{start_good, marks_good, checks_good}

@@ -19,8 +19,10 @@ pub fn find_position(m: Message) -> Option<Position>
     ensures { result ≡ position_of m }
 {
     match m {
-        Message::S4(t) | Message::S4Plus(t) | Message::S8(t) | Message::S8Plus(t) =>
-            Some(Position { x: t.x, y: t.y }),
+        Message::S4(t) | Message::S4Plus(t) | Message::S8(t) | Message::S8Plus(t) => Some(Position {
+            x: t.x,
+            y: t.y,
+        }),
         Message::S9(c) => Some(Position { x: c.x, y: c.y }),
         Message::Blank | Message::S0 | Message::S3(_) | Message::S5(_) | Message::S6(_) => None,
     }
@@ -30,14 +32,22 @@ pub fn find_position(m: Message) -> Option<Position>
 fn place_track(t: Track, to: Position) -> Track
     ensures { result ≡ placed_track t to.x.0 to.y.0 }
 {
-    Track { x: to.x, y: to.y, ..t }
+    Track {
+        x: to.x,
+        y: to.y,
+        ..t
+    }
 }
 
 // The same corner elsewhere.
 fn place_corner(c: Corner, to: Position) -> Corner
     ensures { result ≡ placed_corner c to.x.0 to.y.0 }
 {
-    Corner { x: to.x, y: to.y, ..c }
+    Corner {
+        x: to.x,
+        y: to.y,
+        ..c
+    }
 }
 
 // The same message elsewhere.

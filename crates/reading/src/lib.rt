@@ -19,7 +19,11 @@ fn read_mode(present: u64, code: u64) -> Option<u16>
     requires { code < 65536 }
     ensures { result ≡ mode_of (eqb present 1) code }
 {
-    if present == 1 { Some(code as u16) } else { None }
+    if present == 1 {
+        Some(code as u16)
+    } else {
+        None
+    }
 }
 
 fn read_iff(word: u64) -> Iff

@@ -3,7 +3,7 @@
 use Rattle.std.specs.Prelude.{ℕ, Ok, Err}
 use Rattle.layout.specs.declared.Cause.{Cause}
 use Rattle.layout.specs.declared.Cause.TheVariants.{Pattern, Spare, Unused, TooWide}
-use Rattle.layout.specs.Trouble.{Checked, nothing, wrong}
+use Rattle.layout.specs.Trouble.{Checked}
 use Rattle.refusal.specs.declared.Refusal.{Refusal}
 
 -- success; a level that is neither 0 nor 1; a length; the start group; a mark or the final one; a check bit

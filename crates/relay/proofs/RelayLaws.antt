@@ -16,7 +16,6 @@ use Rattle.pair.specs.Opening.{open_checks, open_refusal, open_of}
 use Rattle.pair.specs.Closing.{close_refusal, close_image}
 use Rattle.shift.specs.Shift.{shifted_by, shift_checks, pair_shifted}
 use Rattle.relay.specs.Relay.{first_message, second_message, pair_checks, relay_refusal, image_shifted, relay_image, Relayed}
-use Rattle.bits.proofs.TestLaws.{zero_one}
 use Rattle.refusal.proofs.CheckLaws.{Refuses, Passed, success_passed, passed_success, given, left_by, answer_is, answer_not, more_refused, more_passed}
 use Rattle.pair.proofs.Demand2.{Legal, opened_closes, closes_legal, legal_closes}
 use Rattle.shift.proofs.Theorems.{shifted_kind, shifted_fits}

@@ -16,7 +16,6 @@ use Rattle.units.specs.Offsets.{are_offsets, sum_z}
 use Rattle.shift.specs.declared.Offset.{Offset}
 use Rattle.message.specs.declared.Message.{Message}
 use Rattle.shift.specs.Shift.{shifted, shifted_by, list_checks, result_checks, both_checks, shift_checks, pair_shifted, sums_of, both_shifted, shifted_of}
-use Rattle.bits.proofs.TestLaws.{zero_one}
 use Rattle.refusal.proofs.CheckLaws.{success_exactly, stage_refused, stage_passed}
 
 -- ---- the first message, and then the second

@@ -1,6 +1,6 @@
 -- `layout::pack` meets its contract. Assumes nothing.
-use Rattle.std.proofs.Common.{rules, sym, ◌∙◌, arith}
-use Rattle.layout.proofs.RuleLaws.{packing_lt, packing_more, packing_bad, packing_done}
+use Rattle.std.proofs.Common.{rules, sym, arith}
+use Rattle.layout.proofs.RuleLaws.{packing_more, packing_bad, packing_done}
 use Rattle.layout.proofs.pack.Goals as goal
 
 pub returns-in_err-check_value : goal.returns-in_err-check_value

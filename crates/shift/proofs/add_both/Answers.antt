@@ -1,6 +1,6 @@
 -- `shift::add_both` meets its contract. Assumes nothing.
 use Rattle.std.specs.Prelude.{Some}
-use Rattle.std.proofs.Common.{◌≡◌, rules, true, List, ℤ, sym, ap, ◌∙◌, length, leb, Result, None, Err}
+use Rattle.std.proofs.Common.{◌≡◌, rules, true, sym, ap, ◌∙◌, length, leb, None, Err}
 use borrow.Author.Tests.{le-leb, lt-leb}
 use Rattle.refusal.specs.Refusals.{numbered_at, out_of_range}
 use Rattle.units.specs.Offsets.{summed_of}

@@ -1,7 +1,5 @@
 -- `tables::find_trouble` meets its contract. Assumes nothing.
-use Rattle.std.proofs.Common.{ap, ◌∙◌, ◌+◌, ◌<◌, arith}
-use Rattle.layout.specs.Layout.{Field}
-use Rattle.layout.specs.Rules.{slots_of, total, ruled}
+use Rattle.std.proofs.Common.{◌∙◌, arith}
 use Rattle.kind.specs.Layouts.{layout_of}
 use Rattle.layout.proofs.RuleLaws.{ruled_layout}
 use Rattle.kind.proofs.TableLaws.{wide, sound}
