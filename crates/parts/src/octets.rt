@@ -29,18 +29,18 @@ fn put(space: &mut [u8], at: usize, x: u8) -> Option<usize> {
     Some(at.wrapping_add(1))
 }
 
-fn put_text(text: &[u8], space: &mut [u8], given: usize) -> Option<usize> {
+// Puts the octet that each character of a text stands for.
+fn put_each<F: Fn(u8) -> Option<u8> + Drop>(
+    text: &[u8],
+    space: &mut [u8],
+    given: usize,
+    value: F,
+) -> Option<usize>
+    requires { F.IsAlwaysCallable value }
+{
     let mut at = given;
     for c in text {
-        at = put(space, at, *c)?;
-    }
-    Some(at)
-}
-
-fn put_digits(digits: &[u8], space: &mut [u8], given: usize) -> Option<usize> {
-    let mut at = given;
-    for c in digits {
-        at = put(space, at, digit(*c)?)?;
+        at = put(space, at, value(*c)?)?;
     }
     Some(at)
 }
@@ -74,8 +74,8 @@ fn put_part(part: &[u8], space: &mut [u8], from: usize) -> Option<usize> {
     let mut pieces = text.splitn(2, |c| *c == b'*');
     let digits = pieces.next()?;
     let at = match mark {
-        b'=' => return put_text(text, space, from),
-        b':' => put_digits(digits, space, from)?,
+        b'=' => return put_each(text, space, from, Some),
+        b':' => put_each(digits, space, from, digit)?,
         b'x' => put_pairs(digits, space, from)?,
         _ => return None,
     };
