@@ -9,13 +9,12 @@ use borrow.Author.Tests.{le-leb, lt-leb, leb-true, eqb-true}
 use lib.Dec.{eqb, leb}
 use lib.ListN.{length}
 use Rattle.bits.specs.Tests.{pick}
+use Rattle.std.proofs.Common.{Result, Ok, Err}
 use Rattle.refusal.specs.Refusals.{success, bad_length, out_of_range, no_frame, numbered}
-use Rattle.refusal.specs.Checks.{check, first_refusal, answered}
+use Rattle.refusal.specs.Checks.{check, first_refusal, answered, refusal_in}
 use Rattle.refusal.specs.declared.Refusal.{Refusal}
 use Rattle.sieve.specs.Capture.{good_at, NoneIn, Least, NoneFrom}
-use Rattle.capture.specs.Search.{first_good, least_from, search_checks, search_refusal, search_of, refusal_in_found}
-use Rattle.capture.specs.declared.Found.{Found}
-use Rattle.capture.specs.declared.Found.TheVariants.{At, Refused}
+use Rattle.capture.specs.Search.{first_good, least_from, search_checks, search_refusal, search_of}
 use Rattle.bits.proofs.TestLaws.{by_lt, clash, zero_one}
 use Rattle.refusal.proofs.CheckLaws.{success_passed, answer_refused}
 use Rattle.sieve.proofs.SieveLaws.{good_whole, none_end}
@@ -79,7 +78,7 @@ module _ (capture : List ℕ) where
         unfolding search_refusal
         none_there h = rw (le-leb _ _ short, le-leb _ _ inside, h (least_from capture start) (first_from _ start))
 
-        pub one_there : (p : ℕ) → Least capture start p → At p ≡ search_of capture start
+        pub one_there : (p : ℕ) → Least capture start p → Ok p ≡ search_of capture start
         unfolding search_of search_refusal
         one_there p least =
             let whole : p + 128 ≤ 8 * length capture = good_whole capture p least.1 in
@@ -87,19 +86,19 @@ module _ (capture : List ℕ) where
             rw (le-leb _ _ short, le-leb _ _ inside, is, least.1)
 
     -- a refusal that the code made, which is the one of the checks
-    pub refused : {made r : Refusal} → made ≡ r → (r.number ≡ success → ⊥) → search_refusal capture start ≡ r → Refused made ≡ search_of capture start
+    pub refused : {made r : Refusal} → made ≡ r → (r.number ≡ success → ⊥) → search_refusal capture start ≡ r → Err made ≡ search_of capture start
     unfolding search_of
-    refused made wrong e = ap Refused made ∙ sym (answer_refused Refused _ e wrong)
+    refused made wrong e = ap Err made ∙ sym (answer_refused _ e wrong)
 
     -- ---- what an answer says
 
     -- a position that is answered is good, and no earlier one from the start on is
-    pub found_least : (p : ℕ) → search_of capture start ≡ At p → Least capture start p
+    pub found_least : (p : ℕ) → search_of capture start ≡ Ok p → Least capture start p
     unfolding search_of search_refusal
     found_least p e = go (eqb (search_refusal capture start).number success) refl e
       where
         go : (t : Bool) → eqb (search_refusal capture start).number success ≡ t
-            → pick t (At (least_from capture start)) (Refused (search_refusal capture start)) ≡ At p → Least capture start p
+            → pick t (Ok (least_from capture start)) (Err (search_refusal capture start)) ≡ Ok p → Least capture start p
         go false f q = zero_one (cc)
         go true f q =
             let is : least_from capture start ≡ p = cc in
@@ -108,12 +107,12 @@ module _ (capture : List ℕ) where
             subst (Least capture start) is least
 
     -- where 10 is answered, no good frame lies at or after the start
-    pub none_found : search_of capture start ≡ Refused (numbered no_frame) → NoneFrom capture start
+    pub none_found : search_of capture start ≡ Err (numbered no_frame) → NoneFrom capture start
     unfolding search_of search_refusal
     none_found e = go (leb (length capture) 65536) (leb start (8 * length capture)) refl (good_at capture (least_from capture start)) refl e
       where
         go : (a b : Bool) → leb start (8 * length capture) ≡ b → (g : Bool) → good_at capture (least_from capture start) ≡ g
-            → answered Refused (first_refusal (check a bad_length ∷ check b out_of_range ∷ check g no_frame ∷ [])) (At (least_from capture start)) ≡ Refused (numbered no_frame)
+            → answered (first_refusal (check a bad_length ∷ check b out_of_range ∷ check g no_frame ∷ [])) (least_from capture start) ≡ Err (numbered no_frame)
             → NoneFrom capture start
         go false b p g q f = zero_one (cc)
         go true false p g q f = zero_one (cc)
@@ -124,30 +123,30 @@ module _ (capture : List ℕ) where
             none_end capture start (least_from capture start) (λ r a b. first_none _ start r a b) (omega arith)
 
     -- so where a start in the capture is refused
-    pub none_answered : length capture ≤ 65536 → start ≤ 8 * length capture → (r : Refusal) → search_of capture start ≡ Refused r → NoneFrom capture start
+    pub none_answered : length capture ≤ 65536 → start ≤ 8 * length capture → (r : Refusal) → search_of capture start ≡ Err r → NoneFrom capture start
     unfolding search_of search_refusal
     none_answered short inside r e = go (good_at capture (least_from capture start)) refl
       where
         go : (g : Bool) → good_at capture (least_from capture start) ≡ g → NoneFrom capture start
-        go true q = let found : search_of capture start ≡ At (least_from capture start) = rw (le-leb _ _ short, le-leb _ _ inside, q) in zero_one (cc)
+        go true q = let found : search_of capture start ≡ Ok (least_from capture start) = rw (le-leb _ _ short, le-leb _ _ inside, q) in zero_one (cc)
         go false q = none_found (rw (le-leb _ _ short, le-leb _ _ inside, q))
 
     -- ---- each answer, exactly
 
-    told : {r : Refusal} → search_refusal capture start ≡ r → (r.number ≡ success → ⊥) → search_of capture start ≡ Refused r
+    told : {r : Refusal} → search_refusal capture start ≡ r → (r.number ≡ success → ⊥) → search_of capture start ≡ Err r
     told e wrong = sym (refused refl wrong e)
 
-    too_long_told : 65536 < length capture → search_of capture start ≡ Refused (numbered bad_length)
+    too_long_told : 65536 < length capture → search_of capture start ≡ Err (numbered bad_length)
     too_long_told h = told (too_long h) (λ z. omega arith)
 
-    past_end_told : length capture ≤ 65536 → 8 * length capture < start → search_of capture start ≡ Refused (numbered out_of_range)
+    past_end_told : length capture ≤ 65536 → 8 * length capture < start → search_of capture start ≡ Err (numbered out_of_range)
     past_end_told short h = told (past_end short h) (λ z. omega arith)
 
-    none_told : length capture ≤ 65536 → start ≤ 8 * length capture → NoneFrom capture start → search_of capture start ≡ Refused (numbered no_frame)
+    none_told : length capture ≤ 65536 → start ≤ 8 * length capture → NoneFrom capture start → search_of capture start ≡ Err (numbered no_frame)
     none_told short inside none = told (none_there short inside none) (λ z. omega arith)
 
-    one_number : {a b : ℕ} → search_of capture start ≡ Refused (numbered a) → search_of capture start ≡ Refused (numbered b) → a ≡ b
-    one_number e f = ap (λ (x : Found). (refusal_in_found x).number) (sym e ∙ f)
+    one_number : {a b : ℕ} → search_of capture start ≡ Err (numbered a) → search_of capture start ≡ Err (numbered b) → a ≡ b
+    one_number e f = ap (λ (x : Result ℕ Refusal). (refusal_in x).number) (sym e ∙ f)
 
     -- by the length and the start
     module _ {P : Type 0} (long : 65536 < length capture → P) (past : length capture ≤ 65536 → 8 * length capture < start → P)
@@ -155,17 +154,17 @@ module _ (capture : List ℕ) where
       by_cases : P
       by_cases = by_lt 65536 (length capture) long (λ short. by_lt (8 * length capture) start (past short) (within short))
 
-    pub found_exactly : (p : ℕ) → (search_of capture start ≡ At p) ↔ ((length capture ≤ 65536) × (start ≤ 8 * length capture) × Least capture start p)
+    pub found_exactly : (p : ℕ) → (search_of capture start ≡ Ok p) ↔ ((length capture ≤ 65536) × (start ≤ 8 * length capture) × Least capture start p)
     found_exactly p = (
       λ e.
           by_cases
-          (λ h. let q : At p ≡ Refused (numbered bad_length) = sym e ∙ too_long_told h in zero_one (cc))
-          (λ short h. let q : At p ≡ Refused (numbered out_of_range) = sym e ∙ past_end_told short h in zero_one (cc))
+          (λ h. let q : Ok p ≡ Err (numbered bad_length) = sym e ∙ too_long_told h in zero_one (cc))
+          (λ short h. let q : Ok p ≡ Err (numbered out_of_range) = sym e ∙ past_end_told short h in zero_one (cc))
           (λ short inside. (short, inside, found_least p e)),
       λ w. sym (one_there w.0 w.1 p w.2),
     )
 
-    pub long_exactly : (search_of capture start ≡ Refused (numbered bad_length)) ↔ (65536 < length capture)
+    pub long_exactly : (search_of capture start ≡ Err (numbered bad_length)) ↔ (65536 < length capture)
     long_exactly = (
       λ e.
           by_cases (λ h. h)
@@ -175,7 +174,7 @@ module _ (capture : List ℕ) where
       too_long_told,
     )
 
-    pub past_exactly : (search_of capture start ≡ Refused (numbered out_of_range)) ↔ ((length capture ≤ 65536) × (8 * length capture < start))
+    pub past_exactly : (search_of capture start ≡ Err (numbered out_of_range)) ↔ ((length capture ≤ 65536) × (8 * length capture < start))
     past_exactly = (
       λ e.
           by_cases
@@ -186,7 +185,7 @@ module _ (capture : List ℕ) where
       λ w. past_end_told w.0 w.1,
     )
 
-    pub none_exactly : (search_of capture start ≡ Refused (numbered no_frame)) ↔ ((length capture ≤ 65536) × (start ≤ 8 * length capture) × NoneFrom capture start)
+    pub none_exactly : (search_of capture start ≡ Err (numbered no_frame)) ↔ ((length capture ≤ 65536) × (start ≤ 8 * length capture) × NoneFrom capture start)
     none_exactly = (
       λ e.
           by_cases

@@ -1,17 +1,24 @@
 -- Why the search may pass octets: what a good frame says of the octets that it lies in. Assumes nothing.
-use mathlib.Core.Path.{◌≡◌, refl, sym, ap, ◌∙◌}
-use mathlib.Core.Bool.{true, false}
+use mathlib.Core.Path.{◌≡◌, refl, sym, ap, subst, ◌∙◌}
+use mathlib.Core.Bool.{Bool, true, false}
 use mathlib.Core.List.{List}
-use Prim.Native.Nat.{ℕ, ◌+◌, ◌-◌, ◌*◌, ◌/◌, ◌%◌, ◌^◌, ◌≤◌, ◌<◌, min}
-use native.Mathlib.Nat.{min-eq_left, zero-div, div-one}
+use Prim.Native.Nat.{ℕ, zero, suc, ◌+◌, ◌-◌, ◌*◌, ◌/◌, ◌%◌, ◌^◌, ◌≤◌, ◌<◌, min}
+use native.Mathlib.Nat.{add-zero, min-eq_left, zero-div, div-one}
 use native.Mathlib.Omega.{arith}
 use borrow.Author.Tests.{le-leb, leb-true}
 use lib.Bits.{bit_and, and_step, and_shr}
 use lib.Count.{count_leading_zeros}
-use lib.Dec.{leb}
+use lib.Dec.{eqb, leb}
+use Rattle.std.proofs.Common.{Ok, Err}
 use lib.ListN.{length, get_or}
-use Rattle.bits.specs.Tests.{every}
+use Rattle.std.specs.List.{between, AllWithin}
+use Rattle.std.specs.Result.{is_ok}
+use Rattle.std.proofs.lemmas.List.Edits.{get_or-between}
+use Rattle.bits.specs.Tests.{pick, every}
 use Rattle.bits.specs.Octets.{bit_at}
+use Rattle.refusal.specs.Refusals.{success}
+use Rattle.refusal.specs.Checks.{answered}
+use Rattle.refusal.specs.declared.Refusal.{Refusal}
 use Rattle.frame.specs.Frame.{good_frame, frame_at}
 use Rattle.sieve.specs.Capture.{good_at, NoneIn, NoneFrom}
 use Rattle.sieve.specs.Sieve.{PassedOver}
@@ -20,6 +27,14 @@ use Rattle.bits.proofs.NumberLaws.{num_ext, num_of_lem, num_zero, shl_low}
 use Rattle.bits.proofs.OctetLaws.{bit_in}
 use Rattle.frame.proofs.FrameLaws.{start_zero, mark_one}
 use Rattle.frame.proofs.LeadLaws.{lead_is}
+
+-- an answer that is a value, as a test of the number
+pub value_told : (r : Refusal) → is_ok (answered r (tt {0})) ≡ eqb r.number success
+value_told r = go (eqb r.number success)
+  where
+    go : (t : Bool) → is_ok (pick t (Ok (tt {0})) (Err r)) ≡ t
+    go true = refl
+    go false = refl
 
 -- ---- a good frame at a position
 
@@ -71,6 +86,18 @@ idle_more s i o idle h odd =
         let q : p + (n + 1) ≡ 8 * o + 7 + 1 = omega arith in
         ap (λ (x : ℕ). x % 2) (sym (div-one (get_or s o 0))) ∙ sym (bit_in s o 7 (omega arith)) ∙ ap (bit_at s) (sym q)
         ∙ start_zero (frame_at s p) (good_frame_lem s p e) n (omega arith)
+
+-- so n octets are passed whose last bits are ones
+pub idle_run : (s : List ℕ) (i n : ℕ) → i + n ≤ length s → ((k : ℕ) → k < n → get_or s (i + k) 0 % 2 ≡ 0 → ⊥) → PassedOver s i (i + n)
+idle_run s i zero h odd = rw (add-zero i) (pass_none s i (omega arith))
+idle_run s i (suc n) h odd =
+    let e : i + n + 1 ≡ i + suc n = omega arith in
+    subst (PassedOver s i) e (idle_more s i (i + n) (idle_run s i n (omega arith) (λ k l. odd k (omega arith))) (omega arith) (odd n (omega arith)))
+
+-- the same of the octets from i on as a part of the capture
+pub idle_part : (s : List ℕ) (i n : ℕ) → i ≤ length s → n ≤ length s - i → AllWithin (λ x. x % 2 ≡ 0 → ⊥) (between i (length s) s) 0 n → PassedOver s i (i + n)
+idle_part s i n h l odd =
+    idle_run s i n (omega arith) (λ k m e. odd k 0 (omega arith) m (ap (λ (x : ℕ). x % 2) (get_or-between s i (length s) k 0 (omega arith)) ∙ e))
 
 -- ---- the marks
 

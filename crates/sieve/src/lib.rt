@@ -2,10 +2,15 @@
 
 #![tactic(auto)]
 
-ghost use Rattle.std.specs.Prelude.{◌≡◌, ◌+◌, ◌*◌, ◌≤◌, ◌<◌, min, length};
+ghost use Rattle.std.specs.Prelude.{◌≡◌, ◌+◌, ◌*◌, ◌≤◌, ◌<◌, length};
 ghost use Rattle.frame.specs.Frame.{LiesWhole};
 ghost use Rattle.sieve.specs.Capture.{good_at};
-ghost use Rattle.sieve.specs.Sieve.{PassedOver, Looked};
+ghost use Rattle.sieve.specs.Sieve.{PassedOver, Seen};
+
+use std::ops::ControlFlow;
+
+// What was seen: a good frame to stop at, or none before a position to go on from.
+pub type Seen = ControlFlow<usize, usize>;
 
 // The first octet from i on whose last bit is zero, or the capture's end. The eight zeros of a start group
 // cover the last bit of the octet that they begin in, so an idle line is passed at one test an octet.
@@ -13,14 +18,10 @@ fn pass_idle(capture: &[u8], i: usize) -> usize
     requires { i ≤ length capture.now }
     ensures { PassedOver capture.now i result }
 {
-    let mut o = i;
-    while o < capture.len() {
-        if capture[o] % 2 == 0 {
-            return o;
-        }
-        o += 1;
+    match capture[i..].iter().position(|octet| *octet % 2 == 0) {
+        Some(passed) => i + passed,
+        None => capture.len(),
     }
-    o
 }
 
 // The octet that can be gone on from, or i. The fifteen marks of a frame that begins in octet i stand in the fifteen octets
@@ -30,10 +31,8 @@ fn pass_unmarked(capture: &[u8], i: usize) -> usize
     ensures { PassedOver capture.now i result }
 {
     let mut ones: u8 = 255;
-    let mut from = 16;
-    while 8 < from {
-        from -= 1;
-        ones = ones & capture[i + from];
+    for from in (8..16).rev() {
+        ones &= capture[i + from];
         if ones == 0 {
             return i + from;
         }
@@ -46,30 +45,17 @@ fn is_frame(capture: &[u8], q: usize) -> bool
     requires { LiesWhole capture.now 0 }
     ensures { result ≡ good_at capture.now q }
 {
-    if 8 * capture.len() - 128 < q {
-        return false;
-    }
-    frame::verdict_at(capture, q).number == refusal::SUCCESS
-}
-
-// What was seen: a good frame at `at`, or none before it.
-#[derive(Clone, Copy)]
-pub struct Seen {
-    pub frame: bool,
-    pub at: usize,
+    q <= 8 * capture.len() - 128 && frame::verdict_at(capture, q).is_ok()
 }
 
 // Looks from position p to the end of its octet. A frame that begins there has its first mark where the next octet has its first
 // one, so there is one position to try, and before it is judged its octet must end in the zeros of a start group.
 fn look_in_octet(capture: &[u8], p: usize) -> Seen
     requires { LiesWhole capture.now p }
-    ensures { Looked capture.now p result.frame result.at }
+    ensures { Seen capture.now p result }
 {
     let i = p / 8;
-    let none = Seen {
-        frame: false,
-        at: 8 * i + 8,
-    };
+    let none = ControlFlow::Continue(8 * i + 8);
     let lead = frame::lead(capture[i + 1]);
     if lead == 8 {
         return none;
@@ -82,7 +68,7 @@ fn look_in_octet(capture: &[u8], p: usize) -> Seen
         return none;
     }
     if is_frame(capture, q) {
-        return Seen { frame: true, at: q };
+        return ControlFlow::Break(q);
     }
     none
 }
@@ -90,48 +76,29 @@ fn look_in_octet(capture: &[u8], p: usize) -> Seen
 // Looks from position p on, octet by octet, as far as e.
 fn look_each(capture: &[u8], p: usize, e: usize) -> Seen
     requires { (p < e) × (e + 127 ≤ 8 * length capture.now) × (length capture.now ≤ 65536) }
-    ensures { Looked capture.now p result.frame result.at }
+    ensures { Seen capture.now p result }
 {
     let mut q = p;
     while q < e {
-        let seen = look_in_octet(capture, q);
-        if seen.frame {
-            return seen;
-        }
-        q = seen.at;
+        q = look_in_octet(capture, q)?;
     }
-    Seen {
-        frame: false,
-        at: q,
-    }
-}
-
-fn least(a: usize, b: usize) -> usize
-    ensures { result ≡ min a b }
-{
-    if a < b { a } else { b }
+    ControlFlow::Continue(q)
 }
 
 // Looks on from position p: past an idle stretch, past octets that lack a mark, or at the next eight octets. So an octet costs a
 // few tests, whatever it holds, and only a start group with its first mark costs a verdict.
 pub fn look(capture: &[u8], p: usize) -> Seen
     requires { LiesWhole capture.now p }
-    ensures { Looked capture.now p result.frame result.at }
+    ensures { Seen capture.now p result }
 {
     let i = p / 8;
     let idle = pass_idle(capture, i);
     if i < idle {
-        return Seen {
-            frame: false,
-            at: 8 * idle,
-        };
+        return ControlFlow::Continue(8 * idle);
     }
     let unmarked = pass_unmarked(capture, i);
     if i < unmarked {
-        return Seen {
-            frame: false,
-            at: 8 * unmarked,
-        };
+        return ControlFlow::Continue(8 * unmarked);
     }
-    look_each(capture, p, least(8 * i + 64, 8 * capture.len() - 127))
+    look_each(capture, p, (8 * i + 64).min(8 * capture.len() - 127))
 }

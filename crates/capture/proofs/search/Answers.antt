@@ -1,4 +1,5 @@
 -- `capture::search` meets its contract. The loop's invariant: no good frame from the start on at the positions passed. Assumes nothing.
+use mathlib.Core.Path.{refl}
 use native.Mathlib.Omega.{arith}
 use borrow.Author.Rules.{rules}
 use Rattle.sieve.proofs.SieveLaws.{none_join, none_end}
@@ -14,19 +15,18 @@ returns-then-total-start c = refused _ _ c.of-then-total-start.ensures (λ q. om
 pub loop-p-init : goal.loop-p-init
 loop-p-init c = (search rules, search rules, λ q a b. absurd (omega arith))
 
-pub returns-then-seen : goal.returns-then-seen
-returns-then-seen c =
-    let at-loop = c in
-    let looked = c.look-seen.ensures in
-    one_there _ _ at-loop.if-capture-gt65536.false at-loop.if-total-start.false _
-    (omega (arith, looked.from), looked.found c.if-seen.true, none_join _ _ _ _ _ at-loop.loop-p.invariant.2 (search rules) looked.none)
+pub returns-in-Break : goal.returns-in-Break
+returns-in-Break c =
+    let looked = c.in-Break.ensures in
+    one_there _ _ c.if-capture-gt65536.false c.if-total-start.false _
+    (omega (arith, looked.from), looked.found refl, none_join _ _ _ _ _ c.loop-p.invariant.2 (search rules) looked.none)
 
 pub loop-p-smaller : goal.loop-p-smaller
-loop-p-smaller c = omega (arith, c.look-seen.ensures.further c.if-seen.false, c.look-seen.ensures.to)
+loop-p-smaller c = let looked = c.in-Continue.ensures in omega (arith, looked.further refl, looked.to)
 
 pub loop-p-preserved : goal.loop-p-preserved
 loop-p-preserved c =
-    let looked = c.look-seen.ensures in
+    let looked = c.in-Continue.ensures in
     (omega (arith, looked.from), looked.to, none_join _ _ _ _ _ c.loop-p.invariant.2 (search rules) looked.none)
 
 pub returns : goal.returns

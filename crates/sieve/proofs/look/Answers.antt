@@ -25,9 +25,3 @@ returns-then-i-idle c = past c.pass_idle-idle.ensures (search rules) (search rul
 
 pub returns-then-i-unmarked : goal.returns-then-i-unmarked
 returns-then-i-unmarked c = past c.pass_unmarked-unmarked.ensures (search rules) (search rules)
-
-pub look_each-requires : goal.look_each-requires
-look_each-requires c = omega (arith, c.least.ensures)
-
-pub returns : goal.returns
-returns c = c.look_each.ensures

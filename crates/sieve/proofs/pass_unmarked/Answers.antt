@@ -1,6 +1,6 @@
 -- `sieve::pass_unmarked` meets its contract. The loop's invariant: what the AND so far rules out. Assumes nothing.
 use borrow.Author.Rules.{rules}
-use Rattle.sieve.proofs.SieveLaws.{sift_start, sift_more, sift_none, pass_none}
+use Rattle.sieve.proofs.SieveLaws.{sift_start, sift_more, sift_none}
 use Rattle.sieve.proofs.pass_unmarked.Goals as goal
 
 pub loop-from-init : goal.loop-from-init
@@ -11,6 +11,3 @@ returns-then-ones-eq0 c = sift_none _ _ _ _ (sift_more _ _ _ _ c.loop-from.invar
 
 pub loop-from-preserved : goal.loop-from-preserved
 loop-from-preserved c = sift_more _ _ _ _ c.loop-from.invariant (search rules)
-
-pub returns : goal.returns
-returns c = pass_none _ _ (search rules)

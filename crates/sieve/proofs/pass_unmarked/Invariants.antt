@@ -4,6 +4,3 @@ use Rattle.sieve.proofs.pass_unmarked.Given as goal
 
 abbrev pub invariant-loop-from : goal.invariant-loop-from
 invariant-loop-from l = Sifted l.capture l.i l.ones l.from
-
-abbrev pub decreases-loop-from : goal.decreases-loop-from
-decreases-loop-from l = l.from
