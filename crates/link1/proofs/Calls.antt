@@ -57,7 +57,7 @@ lent_out x = record { ghost_name = 0; ref_ptr = (0, 0); now = x }
 pub data Judges : List ℕ → Refusal → Type 0 where
   judges : (κs : Lfts 1) (a : _) (r : Result (Unit {0}) Refusal) (e : _) → verdict.Post κs a r e → Judges a.0.now (refusal_in r)
 
-verdict_tells : (image : List ℕ) → refusal_in (answered (verdict_of image) tt) ≡ verdict_of image
+verdict_tells : (image : List ℕ) → refusal_in (answered (verdict_of image) (tt {0})) ≡ verdict_of image
 unfolding verdict_of
 verdict_tells image = answer_tells tt (image_checks image) refl
 
@@ -83,7 +83,7 @@ opens_any κs image = opens κs (lent image, tt) (open_of image) (lent image, tt
 pub data Closes : Message → Message → List ℕ → Refusal → List ℕ → Type 0 where
   closes : (κs : Lfts 1) (a : _) (r : Result (Unit {0}) Refusal) (e : _) → close.Post κs a r e → Closes a.0 a.1.0 a.1.1.0.now (refusal_in r) e.1.1.0.now
 
-close_tells : (first second : Message) (buffer : List ℕ) → refusal_in (answered (close_refusal first second buffer) tt) ≡ close_refusal first second buffer
+close_tells : (first second : Message) (buffer : List ℕ) → refusal_in (answered (close_refusal first second buffer) (tt {0})) ≡ close_refusal first second buffer
 unfolding close_refusal
 close_tells first second buffer = answer_tells tt (close_checks first second buffer) refl
 
@@ -102,7 +102,7 @@ pub data Relays : List ℕ → List ℤ → List ℤ → List ℕ → Refusal �
   relays : (κs : Lfts 4) (a : _) (r : Result (Unit {0}) Refusal) (e : _) → relay.Post κs a r e
       → Relays a.0.now a.1.0.now a.1.1.0.now a.1.1.1.0.now (refusal_in r) e.1.1.1.0.now
 
-relay_tells : (image : List ℕ) (xs ys : List ℤ) (buffer : List ℕ) → refusal_in (answered (relay_refusal image xs ys buffer) tt) ≡ relay_refusal image xs ys buffer
+relay_tells : (image : List ℕ) (xs ys : List ℤ) (buffer : List ℕ) → refusal_in (answered (relay_refusal image xs ys buffer) (tt {0})) ≡ relay_refusal image xs ys buffer
 unfolding relay_refusal
 relay_tells image xs ys buffer = answer_tells tt (relay_checks image xs ys buffer) refl
 
@@ -141,7 +141,7 @@ takes_any κs s octet = takes κs (s, (octet, tt)) (heard_octet s octet) (s, (oc
 pub data Sends : List ℕ → ℕ → List ℕ → Refusal → List ℕ → Type 0 where
   sends : (κs : Lfts 2) (a : _) (r : Result (Unit {0}) Refusal) (e : _) → send.Post κs a r e → Sends a.0.now a.1.0 a.1.1.0.now (refusal_in r) e.1.1.0.now
 
-send_tells : (image : List ℕ) (previous : ℕ) (buffer : List ℕ) → refusal_in (answered (send_refusal image previous buffer) tt) ≡ send_refusal image previous buffer
+send_tells : (image : List ℕ) (previous : ℕ) (buffer : List ℕ) → refusal_in (answered (send_refusal image previous buffer) (tt {0})) ≡ send_refusal image previous buffer
 unfolding send_refusal
 send_tells image previous buffer = answer_tells tt (send_checks image previous buffer) refl
 
@@ -193,7 +193,7 @@ names_any κs label = names κs (label, tt) (named_of label) (label, tt) refl
 pub data Spells : ℕ → List ℕ → Refusal → List ℕ → Type 0 where
   spells : (κs : Lfts 1) (a : _) (r : Result (Unit {0}) Refusal) (e : _) → track-text.Post κs a r e → Spells a.0 a.1.0.now (refusal_in r) e.1.0.now
 
-text_tells : (number : ℕ) (buffer : List ℕ) → refusal_in (answered (text_refusal number buffer) tt) ≡ text_refusal number buffer
+text_tells : (number : ℕ) (buffer : List ℕ) → refusal_in (answered (text_refusal number buffer) (tt {0})) ≡ text_refusal number buffer
 unfolding text_refusal
 text_tells number buffer = answer_tells tt (text_checks number buffer) refl
 

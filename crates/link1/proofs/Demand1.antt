@@ -66,7 +66,7 @@ pub asks_nothing :
     ((κs : Lfts 0) (a : _) → of.Asked κs a)
     × ((κs : Lfts 0) (a : _) → at.Asked κs a)
     × ((κs : Lfts 0) (a : _) → inside.Asked κs a)
-    × ((κs : Lfts 1) (a : _) → told.Asked κs a)
+    × ((T : _) (laws : _) (κs : Lfts 2) (a : _) → told.Asked T laws κs a)
     × ((κs : Lfts 1) (a : _) → verdict.Asked κs a)
     × ((κs : Lfts 0) (a : _) → fresh.Asked κs a)
     × ((κs : Lfts 0) (a : _) → step.Asked κs a)
@@ -87,7 +87,7 @@ asks_nothing = (
   λ κs a. tt,
   λ κs a. tt,
   λ κs a. tt,
-  λ κs a. tt,
+  λ T laws κs a. tt,
   λ κs a. tt,
   λ κs a. tt,
   λ κs a. tt,

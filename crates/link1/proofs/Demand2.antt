@@ -44,6 +44,7 @@ use Rattle.position.specs.Positions.{position_of, is_somewhere, x_of, y_of, plac
 use Rattle.relay.specs.Relay.{first_message, second_message, relay_image}
 use Rattle.bits.proofs.TestLaws.{both_true}
 use Rattle.refusal.proofs.CheckLaws.{success_exactly}
+use Rattle.refusal.proofs.OkOr.{same_ok}
 use Rattle.frame.proofs.FrameLaws as frames
 use Rattle.capture.proofs.SearchLaws as search
 use Rattle.units.proofs.Nearest as nearest
@@ -296,8 +297,9 @@ relay_nearest {image} {xs} {ys} {buffer} {after} {first} {second} {o} came x goe
     let c = relays.relay_nearest image xs ys buffer (sym (relayed x).0) in
     let is : relay_image image xs ys buffer ≡ after = sym (relayed x).1 in
     let pair : Ok (first_message image, second_message image) ≡ Ok (first, second) = sym c.came ∙ sym (opened came) in
-    let one : first_message image ≡ first = cc in
-    let two : second_message image ≡ second = cc in
+    let same = same_ok pair in
+    let one = ap (λ (p : Message × Message). p.0) same in
+    let two = ap (λ (p : Message × Message). p.1) same in
     let a = c.one in
     let b = c.two in (
       first_message (relay_image image xs ys buffer),

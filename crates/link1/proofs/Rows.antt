@@ -13,7 +13,7 @@ use Rattle.bits.specs.Tests.{both}
 use Rattle.bits.specs.Numbers.{num_of, sum_of, tab}
 use Rattle.bits.specs.Octets.{AreOctets, octets_of}
 use Rattle.layout.specs.Begins.{Begins, IsFirst}
-use Rattle.layout.specs.Trouble.{nothing, wrong, agreeing}
+use Rattle.layout.specs.Trouble.{nothing as no_trouble, wrong, agreeing}
 use Rattle.layout.specs.declared.Cause.{Cause}
 use Rattle.layout.specs.declared.Cause.TheVariants.{Spare, Unused}
 use Rattle.refusal.specs.Refusals.{numbered_in, troubled}
@@ -111,13 +111,13 @@ table_lacks = refl
 
 -- as it stands; two exchanged, one left out, one too many, another place, other numbers inside, another message
 pub orders_are :
-    in_order 12 14 (check true 2 ∷ check_at true 6 1 ∷ inside 2 nothing ∷ []) (2 at 0 ∷ 6 at 1 ∷ 12 to 14 at 2 ∷ [])
-    ∷ in_order 12 14 (check_at true 6 1 ∷ check true 2 ∷ inside 2 nothing ∷ []) (2 at 0 ∷ 6 at 1 ∷ 12 to 14 at 2 ∷ [])
-    ∷ in_order 12 14 (check true 2 ∷ inside 2 nothing ∷ []) (2 at 0 ∷ 6 at 1 ∷ 12 to 14 at 2 ∷ [])
-    ∷ in_order 12 14 (check true 2 ∷ check_at true 6 1 ∷ inside 2 nothing ∷ []) (2 at 0 ∷ 6 at 1 ∷ [])
-    ∷ in_order 12 14 (check true 2 ∷ check_at true 6 2 ∷ inside 2 nothing ∷ []) (2 at 0 ∷ 6 at 1 ∷ 12 to 14 at 2 ∷ [])
-    ∷ in_order 14 15 (check true 2 ∷ check_at true 6 1 ∷ inside 2 nothing ∷ []) (2 at 0 ∷ 6 at 1 ∷ 12 to 14 at 2 ∷ [])
-    ∷ in_order 12 14 (check true 2 ∷ check_at true 6 1 ∷ inside 1 nothing ∷ []) (2 at 0 ∷ 6 at 1 ∷ 12 to 14 at 2 ∷ [])
+    in_order 12 14 (check true 2 ∷ check_at true 6 1 ∷ inside 2 no_trouble ∷ []) (2 at 0 ∷ 6 at 1 ∷ 12 to 14 at 2 ∷ [])
+    ∷ in_order 12 14 (check_at true 6 1 ∷ check true 2 ∷ inside 2 no_trouble ∷ []) (2 at 0 ∷ 6 at 1 ∷ 12 to 14 at 2 ∷ [])
+    ∷ in_order 12 14 (check true 2 ∷ inside 2 no_trouble ∷ []) (2 at 0 ∷ 6 at 1 ∷ 12 to 14 at 2 ∷ [])
+    ∷ in_order 12 14 (check true 2 ∷ check_at true 6 1 ∷ inside 2 no_trouble ∷ []) (2 at 0 ∷ 6 at 1 ∷ [])
+    ∷ in_order 12 14 (check true 2 ∷ check_at true 6 2 ∷ inside 2 no_trouble ∷ []) (2 at 0 ∷ 6 at 1 ∷ 12 to 14 at 2 ∷ [])
+    ∷ in_order 14 15 (check true 2 ∷ check_at true 6 1 ∷ inside 2 no_trouble ∷ []) (2 at 0 ∷ 6 at 1 ∷ 12 to 14 at 2 ∷ [])
+    ∷ in_order 12 14 (check true 2 ∷ check_at true 6 1 ∷ inside 1 no_trouble ∷ []) (2 at 0 ∷ 6 at 1 ∷ 12 to 14 at 2 ∷ [])
     ∷ []
     ≡ true ∷ replicate 6 false
 orders_are = refl
@@ -294,7 +294,7 @@ spare_first = content_first k.S3 troubled_word
 pub code_not_first : IsFirst BeginsHere (wrong Unused 21) → ⊥
 code_not_first f = omega (arith, f.1 Spare 8 spare_begins)
 
-pub something_first : IsFirst BeginsHere nothing → ⊥
+pub something_first : IsFirst BeginsHere no_trouble → ⊥
 something_first f = f Spare 8 spare_begins
 
 -- ---- digits left in absent modes (02, item 2)
