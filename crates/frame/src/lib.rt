@@ -45,7 +45,12 @@ fn is_checked(octets: &[u8], position: usize) -> bool
     requires { LiesWhole octets.now position }
     ensures { result ≡ checks_good (frame_at octets.now position) }
 {
-    (0..6).all(|i| column(octets, position, i + 1).count_ones() % 2 == 1)
+    for i in 0..6 {
+        if column(octets, position, i + 1).count_ones() % 2 != 1 {
+            return false;
+        }
+    }
+    true
 }
 
 // What is wrong first with the frame at a position, if anything. The check bits are counted last.

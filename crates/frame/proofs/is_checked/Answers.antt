@@ -1,19 +1,38 @@
--- `frame::is_checked` meets its contract. Assumes nothing.
-use mathlib.Core.Path.{refl, ap, ◌∙◌}
-use Prim.Native.Nat.{ℕ, ◌+◌, ◌*◌, ◌%◌}
+-- `frame::is_checked` meets its contract. The loop's invariant: the columns passed are odd. Assumes nothing.
+use mathlib.Core.Path.{◌≡◌, sym, ap, ◌∙◌}
+use Prim.Native.Nat.{ℕ, ◌+◌, ◌%◌}
+use native.Mathlib.Omega.{arith}
 use borrow.Author.Rules.{rules}
+use borrow.Author.Tests.{eq-eqb, ne_eqb}
 use lib.Count.{ones}
 use lib.Dec.{eqb}
-use Rattle.bits.specs.Numbers.{num_of}
-use Rattle.bits.proofs.TestLaws.{every_ext}
-use Rattle.frame.specs.Frame.{frame_at}
-use Rattle.frame.proofs.EveryLaws.{every_by_all}
+use Rattle.bits.specs.Tests.{every}
+use Rattle.frame.specs.Frame.{frame_at, column_of}
+use Rattle.bits.proofs.TestLaws.{every_none, every_more, every_fails}
 use Rattle.frame.proofs.FrameLaws.{column_ones}
 use Rattle.frame.proofs.is_checked.Goals as goal
 
+pub loop-i-init : goal.loop-i-init
+loop-i-init c = every_none _
+
+pub returns-then-column-ne1 : goal.returns-then-column-ne1
+returns-then-column-ne1 c =
+    let a = c.args in
+    let i = c.loop-i.i in
+    let e : ones c.column.result ≡ column_of (frame_at a.octets.now a.position) (i + 1) =
+    ap ones c.column.ensures ∙ column_ones a.octets.now a.position (i + 1) in
+    sym (every_fails (λ k. eqb (column_of (frame_at a.octets.now a.position) (k + 1) % 2) 1) 6 i (search rules)
+    (ne_eqb _ _ (λ q. c.if-column-ne1.true (ap (λ (n : ℕ). n % 2) e ∙ q))))
+
+pub loop-i-preserved : goal.loop-i-preserved
+loop-i-preserved c =
+    let a = c.args in
+    let i = c.loop-i.i in
+    let e : ones c.column.result ≡ column_of (frame_at a.octets.now a.position) (i + 1) =
+    ap ones c.column.ensures ∙ column_ones a.octets.now a.position (i + 1) in
+    every_more _ _ c.loop-i.invariant (eq-eqb _ _ (ap (λ (n : ℕ). n % 2) (sym e) ∙ c.if-column-ne1.false))
+
 pub returns : goal.returns
 returns c =
-    let s = c.args.octets.now in
-    let p = c.args.position in
-    every_by_all (λ i. eqb (ones (num_of (λ g. frame_at s p (8 * g + 9 + (i + 1))) 15) % 2) 1) 6 refl c.all.ensures.ran (λ x b q k. search rules)
-    ∙ every_ext _ _ 6 (λ i l. ap (λ (n : ℕ). eqb (n % 2) 1) (column_ones s p (i + 1)))
+    let e : c.loop-i.i ≡ 6 = omega arith in
+    sym c.loop-i.invariant ∙ ap (every _) e
