@@ -2,7 +2,7 @@
 
 #![tactic(auto)]
 
-use link1::{Message, Opened};
+use link1::Message;
 use std::io;
 
 fn print_label(rt: &impl Print, m: Message) -> io::Result<()> {
@@ -12,10 +12,10 @@ fn print_label(rt: &impl Print, m: Message) -> io::Result<()> {
 fn main(rt: HostRuntime) -> io::Result<()> {
     let image = *b"\x00\xc4\x80\x80\x80\x80\x80\x80\x80\x80\x80\x80\x80\x80\x80\xbb";
     match link1::open(&image) {
-        Opened::Pair(first, second) => {
+        Ok((first, second)) => {
             print_label(&rt, first)?;
             print_label(&rt, second)
         }
-        Opened::Refused(r) => print!(rt; "{}", r.number),
+        Err(refusal) => print!(rt; "{}", refusal.number),
     }
 }

@@ -20,11 +20,9 @@ fn relay_into(
     ys: &[i32],
     buffer: &mut [u8],
 ) -> io::Result<()> {
-    let refusal = link1::relay(image, xs, ys, buffer);
-    if refusal.number == link1::SUCCESS {
-        print_image(rt, buffer)
-    } else {
-        print!(rt; "{}", refusal.number)
+    match link1::relay(image, xs, ys, buffer) {
+        Ok(()) => print_image(rt, buffer),
+        Err(refusal) => print!(rt; "{}", refusal.number),
     }
 }
 

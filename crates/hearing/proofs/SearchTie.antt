@@ -6,7 +6,7 @@ use Prim.Native.Nat.{ℕ, zero, suc, ◌+◌, ◌-◌, ◌*◌, ◌≤◌, ◌<�
 use native.Mathlib.Omega.{arith}
 use borrow.Author.Tests.{le-leb, le-ltb}
 use lib.ListN.{length}
-use Rattle.std.specs.Prelude.{Result}
+use Rattle.std.specs.Prelude.{Result, Ok, Err}
 use Rattle.bits.specs.Tests.{both}
 use Rattle.sieve.specs.Capture.{good_at, Least}
 use Rattle.capture.specs.Search.{search_of}
@@ -49,14 +49,14 @@ module _ (capture : List ℕ) where
             → ends_to capture (8 * length capture + 127) ≡ ends_to capture (p + 1 + 127) ++ map (λ (p : ℕ). p + 128) (found_from capture n (p + 1)))
             → ends_to capture (8 * length capture + 127)
             ≡ ends_to capture (start + 127) ++ map (λ (p : ℕ). p + 128) (and_on (search_of capture start) (found_from capture n))
-        go (Refused r) s ih =
+        go (Err r) s ih =
             let d = 8 * length capture - start in
             let e : start + 127 + d ≡ 8 * length capture + 127 = omega arith in
             rw s
             (ap (ends_to capture) (sym e)
             ∙ ends_none capture (start + 127) d (none_from start d (λ q l m. none_answered capture start short inside r s q l))
             ∙ sym (append-nil (ends_to capture (start + 127))))
-        go (At p) s ih =
+        go (Ok p) s ih =
             let f : Least capture start p = found_least capture start p s in
             let w : p + 128 ≤ 8 * length capture = good_whole capture p f.1 in
             let d = p - start in

@@ -1,6 +1,7 @@
 -- Where frames end in a capture (02, item 5): 'the bits read through its last', said of good frames, by positions and of the search.
-use Rattle.std.specs.Prelude.{Bool, List, [], ◌∷◌, ◌++◌, ℕ, zero, suc, ◌+◌, ◌-◌, ◌*◌, leb, length, Result}
+use Rattle.std.specs.Prelude.{Bool, List, [], ◌∷◌, ◌++◌, ℕ, zero, suc, ◌+◌, ◌-◌, ◌*◌, leb, length, Result, Ok, Err}
 use Rattle.bits.specs.Tests.{pick, both}
+use Rattle.refusal.specs.declared.Refusal.{Refusal}
 use Rattle.sieve.specs.Capture.{good_at}
 use Rattle.capture.specs.Search.{search_of}
 use Rattle.octets.specs.Feeding.{heard_at}
@@ -30,8 +31,8 @@ heard_to capture (suc k) = heard_to capture k ++ end_in k (heard_at capture k)
 
 -- the positions that repeated search gives, from a start on and then from each position found plus 1, in at most so many searches
 abbrev pub and_on : Result ℕ Refusal → (ℕ → List ℕ) → List ℕ
-and_on (At p) next = p ∷ next (p + 1)
-and_on (Refused r) next = []
+and_on (Ok p) next = p ∷ next (p + 1)
+and_on (Err r) next = []
 
 unfoldable pub found_from : List ℕ → ℕ → ℕ → List ℕ
 found_from capture zero start = []

@@ -2,17 +2,17 @@
 
 #![tactic(auto)]
 
-ghost use Rattle.std.specs.Prelude.{◌+◌, ◌≤◌, ◌<◌, ◌≡◌, length, IfSome};
+ghost use Rattle.std.specs.Prelude.{◌+◌, ◌≤◌, ◌<◌, ◌≡◌, length, IfSome, Err, OnOk};
 ghost use Rattle.std.specs.Io.KnownBytes.{Appends, Keeps};
 ghost use Rattle.text.specs.Counts.{IsPrefixLen};
 ghost use Rattle.text.specs.Wrote.{Wrote};
-ghost use Rattle.text.specs.declared.Outcome.TheVariants.{Written, Unread};
+ghost use Rattle.text.specs.declared.Failure.TheVariants.{Unread};
 ghost use Rattle.hearing.specs.Ends.{end_in};
 ghost use Rattle.hearing.specs.Hearing.{lines_of, hearing_of};
 
 use octets::{HeardOctet, OctetReceiver};
 use std::io::{Read, Write};
-use text::Outcome;
+use text::Failure;
 
 // The longest capture that is heard, in octets.
 const MOST: usize = 65536;
@@ -42,12 +42,10 @@ fn fill(capture: &[u8], out: &mut [u8]) -> usize
     }
     let mut receiver = OctetReceiver::fresh();
     let mut at: usize = 0;
-    let mut k: usize = 0;
-    while k < capture.len() {
-        let heard = receiver.step(capture[k]);
+    for (k, octet) in capture.iter().enumerate() {
+        let heard = receiver.step(*octet);
         at = put_end(out, at, k, heard);
         receiver = heard.receiver;
-        k += 1;
     }
     at
 }
@@ -62,17 +60,14 @@ pub fn hear_capture(capture: &[u8], out: &mut [u8; ROOM]) -> usize
 
 // Tells to a writer the frames of the capture that is read from a reader. One octet more than a capture may have is read, to tell that it
 // has more.
-pub fn run<R: Read, W: Write>(from: &mut R, to: &mut W) -> Outcome
-    ensures whole { result ≡ Written → IfSome (R.remaining from.old)
-        (λ capture. Appends (W.contents to.old) (W.contents to.new) (hearing_of capture)) }
-    ensures kept { result ≡ Unread → Keeps (W.contents to.old) (W.contents to.new) }
+pub fn run<R: Read, W: Write>(from: &mut R, to: &mut W) -> Result<(), Failure>
+    ensures whole { OnOk result (IfSome (R.remaining from.old)
+        (λ capture. Appends (W.contents to.old) (W.contents to.new) (hearing_of capture))) }
+    ensures kept { result ≡ Err Unread → Keeps (W.contents to.old) (W.contents to.new) }
 {
     let mut space = [0u8; MOST + 1];
-    let got = text::read_all(from, &mut space);
-    if got.failed {
-        return Outcome::Unread;
-    }
+    let count = text::read_all(from, &mut space)?;
     let mut out = [0u8; ROOM];
-    let k = hear_capture(&space[..got.count], &mut out);
+    let k = hear_capture(&space[..count], &mut out);
     text::write(to, &out[..k])
 }

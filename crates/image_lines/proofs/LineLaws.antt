@@ -4,6 +4,7 @@ use mathlib.Core.List.{List}
 use Prim.Native.Nat.{ℕ, ◌+◌, ◌≤◌}
 use native.Mathlib.Omega.{arith}
 use lib.ListN.{length}
+use Rattle.pair.specs.Opening.{Opened}
 use Rattle.text.specs.Text.{row}
 use Rattle.text.specs.Wrote.{Wrote}
 use Rattle.image_lines.specs.ImageLines.{numbers_of, image_line}

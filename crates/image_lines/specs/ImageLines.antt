@@ -4,6 +4,7 @@ use Rattle.bits.specs.Tests.{pick, is_between}
 use Rattle.refusal.specs.Refusals.{success, bad_pattern, too_wide}
 use Rattle.kind.specs.Layouts.{label_of}
 use Rattle.message.specs.Messages.{kind_of}
+use Rattle.pair.specs.Opening.{Opened}
 use Rattle.text.specs.Text.{octets, row}
 
 -- the bit is 'a fourth number for these refusals only', 12 to 15 (02, item 4)

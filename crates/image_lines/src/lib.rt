@@ -2,62 +2,56 @@
 
 #![tactic(auto)]
 
-ghost use Rattle.std.specs.Prelude.{◌≡◌, ◌+◌, ◌≤◌, ◌<◌, length};
+ghost use Rattle.std.specs.Prelude.{◌≡◌, ◌+◌, ◌≤◌, ◌<◌, length, Err};
 ghost use Rattle.kind.specs.Layouts.{label_of};
 ghost use Rattle.message.specs.Messages.{kind_of};
 ghost use Rattle.text.specs.Wrote.{Wrote};
-ghost use Rattle.pair.specs.declared.Opened.TheVariants.{Refused};
 ghost use Rattle.image_lines.specs.ImageLines.{has_bit, image_line, last_line};
 
 use message::Message;
-use pair::Opened;
 use refusal::Refusal;
 
 fn label(m: Message) -> u64
     ensures { (result ≡ label_of (kind_of m)) × (result < 256) }
 {
-    wide(kind::label(message::kind_of(m)))
-}
-
-fn wide(x: u8) -> u64
-    ensures { (result ≡ x) × (result < 256) }
-{
-    x as u64
+    u64::from(kind::label(message::kind_of(m)))
 }
 
 // Whether a refusal of this number comes with a bit.
 fn has_bit(number: u8) -> bool
     ensures { result ≡ has_bit number }
 {
-    if number < refusal::BAD_PATTERN {
-        return false;
-    }
-    number <= refusal::TOO_WIDE
+    (refusal::BAD_PATTERN..=refusal::TOO_WIDE).contains(&number)
 }
 
 // Puts the line of image n, which is refused.
 fn put_refusal(out: &mut [u8], at: usize, n: u64, r: Refusal) -> usize
     requires { (at + 84 ≤ length out.old) × (n < 10000) }
-    ensures wrote { Wrote out.old at (image_line n (Refused r)) out.new result }
+    ensures wrote { Wrote out.old at (image_line n (Err r)) out.new result }
     ensures upper_bound { result ≤ at + 20 }
 {
-    let number = wide(r.number);
-    let place = wide(r.place);
+    let number = u64::from(r.number);
+    let place = u64::from(r.place);
     if has_bit(r.number) {
-        return text::put_row(out, at, &[n, number, place, wide(r.bit)]);
+        return text::put_row(out, at, &[n, number, place, u64::from(r.bit)]);
     }
     text::put_row(out, at, &[n, number, place])
 }
 
 // Puts the line of image n: at most four numbers, of at most four digits each.
-pub fn put_image(out: &mut [u8], at: usize, n: u64, opened: Opened) -> usize
+pub fn put_image(
+    out: &mut [u8],
+    at: usize,
+    n: u64,
+    opened: Result<(Message, Message), Refusal>,
+) -> usize
     requires { (at + 84 ≤ length out.old) × (n < 10000) }
     ensures wrote { Wrote out.old at (image_line n opened) out.new result }
     ensures upper_bound { result ≤ at + 20 }
 {
     match opened {
-        Opened::Pair(first, second) => text::put_row(out, at, &[n, 0, label(first), label(second)]),
-        Opened::Refused(r) => put_refusal(out, at, n, r),
+        Ok((first, second)) => text::put_row(out, at, &[n, 0, label(first), label(second)]),
+        Err(r) => put_refusal(out, at, n, r),
     }
 }
 

@@ -60,13 +60,14 @@ use Rattle.units.proofs.altitude.Reads as altitude
 use Rattle.relay.proofs.relay.Reads as relay
 use Rattle.link1.proofs.Calls.{Judges, judged, Opens, opened, Closes, closed, Relays, relayed, Steps, stepped, Sends, sent, Searches, searched, Climbs, climbed, Names, named, Spells, spelled, Numbers, numbered_as}
 
--- ---- 'each public call checks its own input': what it asks of its caller is nothing to show
+-- ---- 'each public call checks its own input': what it asks of its caller is nothing to show. `refusal_in` is of any type of value: at the
+-- lifetimes that the type itself has
 
 pub asks_nothing :
     ((κs : Lfts 0) (a : _) → of.Asked κs a)
     × ((κs : Lfts 0) (a : _) → at.Asked κs a)
     × ((κs : Lfts 0) (a : _) → inside.Asked κs a)
-    × ((T : _) (laws : _) (κs : Lfts 2) (a : _) → told.Asked T laws κs a)
+    × ((T : _) (laws : _) (copies : _) (clones : _) (dict : _) (a : _) → told.Asked T laws copies clones dict (T.lives, tt) a)
     × ((κs : Lfts 1) (a : _) → verdict.Asked κs a)
     × ((κs : Lfts 0) (a : _) → fresh.Asked κs a)
     × ((κs : Lfts 0) (a : _) → step.Asked κs a)
@@ -87,7 +88,7 @@ asks_nothing = (
   λ κs a. tt,
   λ κs a. tt,
   λ κs a. tt,
-  λ T laws κs a. tt,
+  λ T laws copies clones dict a n lives. lives,
   λ κs a. tt,
   λ κs a. tt,
   λ κs a. tt,

@@ -41,7 +41,7 @@ pub one_answer :
     ((κs : Lfts 0) (a : _) → One (of.Post κs a))
     × ((κs : Lfts 0) (a : _) → One (at.Post κs a))
     × ((κs : Lfts 0) (a : _) → One (inside.Post κs a))
-    × ((T : _) (laws : _) (κs : Lfts 2) (a : _) → One (told.Post T laws κs a))
+    × ((T : _) (laws : _) (copies : _) (clones : _) (dict : _) (κs : Lfts 1) (a : _) → One (told.Post T laws copies clones dict κs a))
     × ((κs : Lfts 1) (a : _) → One (verdict.Post κs a))
     × ((κs : Lfts 0) (a : _) → One (fresh.Post κs a))
     × ((κs : Lfts 0) (a : _) → One (step.Post κs a))
@@ -62,7 +62,7 @@ one_answer = (
   one _ _ _,
   one _ _ _,
   one _ _ _,
-  λ T laws. one _ _ _,
+  λ T laws copies clones dict. one _ _ _,
   one _ _ _,
   one _ _ _,
   one _ _ _,

@@ -6,7 +6,7 @@ use native.Mathlib.Numerals.{add-one}
 use native.Mathlib.Omega.{arith}
 use borrow.Author.Tests.{lt-ltb, le-ltb}
 use lib.ListN.{length, take, drop, length-append}
-use Rattle.pair.specs.Opening.{open_of}
+use Rattle.pair.specs.Opening.{Opened, open_of}
 use Rattle.text.specs.Text.{too_long}
 use Rattle.text.specs.Wrote.{Wrote}
 use Rattle.image_lines.specs.ImageLines.{image_line, last_line}

@@ -2,15 +2,15 @@
 
 #![tactic(auto)]
 
-ghost use Rattle.std.specs.Prelude.{◌≡◌, ◌≤◌, length, IfSome};
+ghost use Rattle.std.specs.Prelude.{◌≡◌, ◌≤◌, length, IfSome, Err, OnOk};
 ghost use Rattle.std.specs.Io.KnownBytes.{Appends, Keeps};
 ghost use Rattle.text.specs.Counts.{IsPrefixLen};
 ghost use Rattle.text.specs.Wrote.{Wrote};
-ghost use Rattle.text.specs.declared.Outcome.TheVariants.{Written, Unread};
+ghost use Rattle.text.specs.declared.Failure.TheVariants.{Unread};
 ghost use Rattle.listing.specs.Listing.{listing_of};
 
 use std::io::{Read, Write};
-use text::Outcome;
+use text::Failure;
 
 // The longest log that is listed, in octets: 4,096 images.
 const MOST: usize = 65536;
@@ -29,12 +29,10 @@ fn fill(log: &[u8], out: &mut [u8]) -> usize
     }
     let count = log.len() / 16;
     let mut at = text::put(out, 0, b"LINK1\n");
-    let mut n: usize = 0;
-    while n < count {
+    for n in 0..count {
         let from = n * 16;
         let opened = opening::open(&log[from..from + 16]);
-        n += 1;
-        at = image_lines::put_image(out, at, n as u64, opened);
+        at = image_lines::put_image(out, at, n as u64 + 1, opened);
     }
     image_lines::put_last(out, at, count as u64, (log.len() % 16) as u64)
 }
@@ -48,17 +46,14 @@ pub fn list_log(log: &[u8], out: &mut [u8; ROOM]) -> usize
 }
 
 // Lists to a writer the log that is read from a reader. One octet more than a log may have is read, to tell that it has more.
-pub fn run<R: Read, W: Write>(from: &mut R, to: &mut W) -> Outcome
-    ensures whole { result ≡ Written → IfSome (R.remaining from.old)
-        (λ log. Appends (W.contents to.old) (W.contents to.new) (listing_of log)) }
-    ensures kept { result ≡ Unread → Keeps (W.contents to.old) (W.contents to.new) }
+pub fn run<R: Read, W: Write>(from: &mut R, to: &mut W) -> Result<(), Failure>
+    ensures whole { OnOk result (IfSome (R.remaining from.old)
+        (λ log. Appends (W.contents to.old) (W.contents to.new) (listing_of log))) }
+    ensures kept { result ≡ Err Unread → Keeps (W.contents to.old) (W.contents to.new) }
 {
     let mut space = [0u8; MOST + 1];
-    let got = text::read_all(from, &mut space);
-    if got.failed {
-        return Outcome::Unread;
-    }
+    let count = text::read_all(from, &mut space)?;
     let mut out = [0u8; ROOM];
-    let k = list_log(&space[..got.count], &mut out);
+    let k = list_log(&space[..count], &mut out);
     text::write(to, &out[..k])
 }

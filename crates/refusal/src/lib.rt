@@ -8,6 +8,8 @@ ghost use Rattle.refusal.specs.Refusals.{numbered, numbered_at, numbered_in, cau
 ghost use Rattle.refusal.specs.Checks as checks;
 
 use layout::{Cause, Trouble};
+use std::error::Error;
+use std::fmt;
 
 pub const SUCCESS: u8 = 0;
 
@@ -40,7 +42,7 @@ pub const TOO_WIDE: u8 = 15;
 
 // The number; the message or axis that it is about, 1 or 2, of a relay's second message 3 or 4 for its axes, else 0; and of what is wrong
 // inside a message the bit where it begins, else 0. Success is 0 with place and bit 0.
-#[derive(Clone, Copy)]
+#[derive(Clone, Copy, Debug, PartialEq, Eq)]
 pub struct Refusal {
     pub number: u8,
     pub place: u8,
@@ -70,6 +72,15 @@ impl Refusal {
     }
 }
 
+// The three numbers, as an error prints.
+impl fmt::Display for Refusal {
+    fn fmt<W: fmt::Write>(&self, f: &mut fmt::Formatter<W>) -> fmt::Result {
+        write!(f, "{} {} {}", self.number, self.place, self.bit)
+    }
+}
+
+impl Error for Refusal {}
+
 fn number_of(cause: Cause) -> u8
     ensures { result ≡ cause_number cause }
 {
@@ -89,11 +100,11 @@ pub fn refuse(place: u8, trouble: Trouble) -> Refusal
 }
 
 // An answer as a number, a place and a bit: a success is number, place and bit 0.
-pub fn refusal_in<T>(answer: &Result<T, Refusal>) -> Refusal
-    ensures { result ≡ checks.refusal_in answer.now }
+pub fn refusal_in<T: Copy>(answer: Result<T, Refusal>) -> Refusal
+    ensures { result ≡ checks.refusal_in answer }
 {
     match answer {
         Ok(_) => Refusal::of(SUCCESS),
-        Err(refusal) => *refusal,
+        Err(refusal) => refusal,
     }
 }

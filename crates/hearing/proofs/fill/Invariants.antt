@@ -13,6 +13,3 @@ invariant-loop-k l = record {
   fed : l.receiver ≡ fed_to l.capture l.k;
   wrote : Wrote l.fn.out 0 (lines_of (ends_to l.capture (8 * l.k))) l.out l.at;
 }
-
-abbrev pub decreases-loop-k : goal.decreases-loop-k
-decreases-loop-k l = length l.capture - l.k

@@ -9,8 +9,8 @@ pub returns-then-has_bit : goal.returns-then-has_bit
 returns-then-has_bit c =
     let a = c.args in
     let with_bit : has_bit a.r.number ≡ true = sym c.has_bit.ensures ∙ c.if-has_bit.true in
-    let same : a.n ∷ c.wide-number.result ∷ c.wide-place.result ∷ c.wide.result ∷ [] ≡ numbers_of a.n (Err a.r)
-    = rw (c.wide-number.ensures.0, c.wide-place.ensures.0, c.wide.ensures.0, with_bit) in
+    let same : a.n ∷ c.from-number.result ∷ c.from-place.result ∷ c.from.result ∷ [] ≡ numbers_of a.n (Err a.r)
+    = rw (c.from-number.ensures, c.from-place.ensures, c.from.ensures, with_bit) in
     let line = image_put a.out.now a.at a.n (Err a.r) same (omega arith) (omega arith) c.put_row.ensures.wrote in
     record { wrote = line.0; upper_bound = line.1 }
 
@@ -18,7 +18,7 @@ pub returns : goal.returns
 returns c =
     let a = c.args in
     let no_bit : has_bit a.r.number ≡ false = sym c.has_bit.ensures ∙ c.if-has_bit.false in
-    let same : a.n ∷ c.wide-number.result ∷ c.wide-place.result ∷ [] ≡ numbers_of a.n (Err a.r)
-    = rw (c.wide-number.ensures.0, c.wide-place.ensures.0, no_bit) in
+    let same : a.n ∷ c.from-number.result ∷ c.from-place.result ∷ [] ≡ numbers_of a.n (Err a.r)
+    = rw (c.from-number.ensures, c.from-place.ensures, no_bit) in
     let line = image_put a.out.now a.at a.n (Err a.r) same (omega arith) (omega arith) c.put_row-2.ensures.wrote in
     record { wrote = line.0; upper_bound = line.1 }

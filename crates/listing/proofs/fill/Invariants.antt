@@ -11,6 +11,3 @@ invariant-loop-n l = record {
   upper : l.at ≤ l.initial.at + 20 * l.n;
   wrote : Wrote l.initial.out l.initial.at (image_lines l.log l.n) l.out l.at;
 }
-
-abbrev pub decreases-loop-n : goal.decreases-loop-n
-decreases-loop-n l = l.count - l.n

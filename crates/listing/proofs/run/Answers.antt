@@ -8,9 +8,9 @@ use Rattle.listing.proofs.run.Goals as goal
 
 pub returns-clause-whole : goal.returns-clause-whole
 returns-clause-whole g c written =
-    let got = c.read_all-got in
+    let got = c.read_all in
     let space = got.new.space in
-    let n = got.result.count in
+    let n = c.in_ok-count.count in
     let known = g.R.Read.remaining c.args.from.now in
     let most : length space ≡ 65537 = omega arith in
     let enough = read_enough listing_of known _ space n got.ensures.prefix_len.0 got.ensures.read (got.ensures.whole c.if-got.false) (λ (xs ys : List ℕ) e. longer_listed xs ys (omega (arith, e, most))) in
