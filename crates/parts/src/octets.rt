@@ -1,4 +1,4 @@
-// Octets that a line writes: `x00ba` in hexadecimal, `:01` a digit each, `=EG123` as they are; `*14` has the last one stand fourteen times.
+// Octets that a line writes: `x00ba` in hexadecimal, `:01` a digit each, `=EG123` as they are; `*14` has the last stand fourteen times.
 
 ghost use Rattle.std.specs.Prelude.{◌<◌, IfSome};
 

@@ -7,7 +7,7 @@ use native.Mathlib.Omega.{arith}
 use native.Mathlib.Nat.{zero-div, div-le_self}
 use lib.Dec.{T, ltb, leb→le, ltb→lt, nltb→le}
 use lib.IntN.{ℤ, pos, negsuc, neg_ℤ, nat_abs, sub_ℕ, ◌+ℤ◌, ◌*ℤ◌}
-use lib.Signed.{mag, le_z, lt_z, quot_z, non_neg, lt_z_no}
+use lib.Signed.{mag, le_z, lt_z, quot_z, lt_z_no}
 use mir.Syntax.{Width}
 use mir.Val.{SFits, hbits}
 use Rattle.bits.proofs.TestLaws.{to_t}
@@ -135,7 +135,3 @@ quot_parts k (negsuc n) = ((neg_parts (pos (suc n / k))).0 ∙ sym (zero-div k),
 
 pub quot_le : (k : ℕ) (z : ℤ) → (up (quot_z z (pos k)) ≤ up z) × (dn (quot_z z (pos k)) ≤ dn z)
 quot_le k z = omega (arith, quot_parts k z, div-le_self (up z) k, div-le_self (dn z) k)
-
-pub nonneg : (z : ℤ) → dn z ≡ 0 → T (non_neg z)
-nonneg (pos n) h = tt
-nonneg (negsuc n) h = absurd (omega arith)

@@ -30,6 +30,7 @@ returns-clause-wrote c =
     let l = c.loop-number in
     let ns = c.args.numbers.now in
     let long = front_long ns in
-    let all : l.number-index ≡ length (take (length ns - 1) ns) = omega arith in
-    let front = put_as (ap (λ (k : ℕ). spaced (take k (take (length ns - 1) ns))) all ∙ ap spaced (take-length (take (length ns - 1) ns))) l.invariant.wrote in
+    let xs = take (length ns - 1) ns in
+    let all : l.number-index ≡ length xs = omega arith in
+    let front = put_as (ap (λ (k : ℕ). spaced (take k xs)) all ∙ ap spaced (take-length xs)) l.invariant.wrote in
     put_as (row_done ns (length ns - 1) (omega arith)) (put_put (omega arith) front c.put_number.ensures.wrote)

@@ -9,6 +9,8 @@ use Rattle.track.proofs.letter_code.Goals as goal
 
 pub returns-in_err-code : goal.returns-in_err-code
 returns-in_err-code c =
+    let x = c.args.x in
     c.from_residual.ensures
-    ∙ position_from_yields_List (λ y. eqb c.args.x y) _ _ _ c.in_err-code.ensures.ran (YieldsList-from_slice letters cc) (λ y b q k. search (rules, tests))
-    ∙ place_if letters c.args.x
+    ∙ position_from_yields_List (λ y. eqb x y) _ _ _ c.in_err-code.ensures.ran (YieldsList-from_slice letters cc)
+    (λ y b q k. search (rules, tests))
+    ∙ place_if letters x

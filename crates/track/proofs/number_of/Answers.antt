@@ -22,5 +22,5 @@ returns-in_err-digits c = c.from_residual-in_err-digits.ensures ∙ no_number c.
 
 pub returns : goal.returns
 returns c =
-    number_is c.args.text.now _ _ _ _ _ c.in_ok-letter_code.ensures c.in_ok-letters.ensures c.in_ok-digit_code.ensures c.in_ok-digit_code-2.ensures
-    c.in_ok-digits.ensures
+    number_is c.args.text.now _ _ _ _ _ c.in_ok-letter_code.ensures c.in_ok-letters.ensures c.in_ok-digit_code.ensures
+    c.in_ok-digit_code-2.ensures c.in_ok-digits.ensures

@@ -12,8 +12,10 @@ returns-then-text-ne5 c = rw (ne_eqb _ _ c.if-text-ne5.true) (ap Err c.of.ensure
 
 pub returns-then-number-gt32767 : goal.returns-then-number-gt32767
 unfolding text_after text_refusal
-returns-then-number-gt32767 c = rw (eq-eqb _ _ c.if-text-ne5.false, le-ltb _ 32768 c.if-number-gt32767.true) (ap Err c.of-then-number-gt32767.ensures, refl)
+returns-then-number-gt32767 c =
+    rw (eq-eqb _ _ c.if-text-ne5.false, le-ltb _ 32768 c.if-number-gt32767.true) (ap Err c.of-then-number-gt32767.ensures, refl)
 
 pub returns : goal.returns
 unfolding text_after text_refusal
-returns c = rw (eq-eqb _ _ c.if-text-ne5.false, lt-ltb c.args.number 32768 (omega (arith, c.if-number-gt32767.false))) (refl, c.put_text.ensures)
+returns c =
+    rw (eq-eqb _ _ c.if-text-ne5.false, lt-ltb c.args.number 32768 (omega (arith, c.if-number-gt32767.false))) (refl, c.put_text.ensures)

@@ -22,20 +22,20 @@ said c =
 
 pub returns-then-not-is_offset : goal.returns-then-not-is_offset
 returns-then-not-is_offset c =
-    refused _
-    (bad _ _ _ c.loop-offset.invariant c.loop-offset-test.true (said (goal.at.returns-then-not-is_offset c).After-is_offset ∙ c.if-not-is_offset.true))
+    let no = said (goal.at.returns-then-not-is_offset c).After-is_offset ∙ c.if-not-is_offset.true in
+    refused _ (bad _ _ _ c.loop-offset.invariant c.loop-offset-test.true no)
 
 pub add-sum-requires : goal.add-sum-requires
 add-sum-requires c =
     let x = fits (goal.at.add-sum-requires c).After-is_offset in
-    simp to_z-of_z
-    (sum_fits _ _ _ c.loop-offset.invariant c.loop-offset-test.true (said (goal.at.add-sum-requires c).After-is_offset ∙ c.if-not-is_offset.false))
+    let yes = said (goal.at.add-sum-requires c).After-is_offset ∙ c.if-not-is_offset.false in
+    simp to_z-of_z (sum_fits _ _ _ c.loop-offset.invariant c.loop-offset-test.true yes)
 
 pub loop-offset-preserved : goal.loop-offset-preserved
 loop-offset-preserved c =
     let x = fits (goal.at.loop-offset-preserved c).After-is_offset in
-    rw (simp to_z-of_z at c.add-sum.ensures)
-    (next _ _ _ c.loop-offset.invariant c.loop-offset-test.true (said (goal.at.loop-offset-preserved c).After-is_offset ∙ c.if-not-is_offset.false))
+    let yes = said (goal.at.loop-offset-preserved c).After-is_offset ∙ c.if-not-is_offset.false in
+    rw (simp to_z-of_z at c.add-sum.ensures) (next _ _ _ c.loop-offset.invariant c.loop-offset-test.true yes)
 
 pub returns : goal.returns
 returns c = done _ _ _ c.loop-offset.invariant c.loop-offset-test.false
