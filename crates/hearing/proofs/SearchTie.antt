@@ -8,6 +8,7 @@ use borrow.Author.Tests.{le-leb, le-ltb}
 use lib.ListN.{length}
 use Rattle.std.specs.Prelude.{Result, Ok, Err}
 use Rattle.bits.specs.Tests.{both}
+use Rattle.refusal.specs.declared.Refusal.{Refusal}
 use Rattle.sieve.specs.Capture.{good_at, Least}
 use Rattle.capture.specs.Search.{search_of}
 use Rattle.sieve.proofs.SieveLaws.{good_whole}

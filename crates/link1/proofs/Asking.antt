@@ -17,21 +17,16 @@ use Rattle.line.specs.declared.Heard.{Heard}
 use Rattle.octets.specs.Feeding.{heard_at}
 use Rattle.octets.specs.declared.HeardOctet.{HeardOctet}
 use Rattle.capture.specs.Search.{search_of, position_found}
-use Rattle.capture.specs.Search as searching
 use Rattle.units.specs.Heights.{height_of}
 use Rattle.kind.specs.declared.Kind.{Kind}
 use Rattle.units.specs.declared.AltSteps.{AltSteps}
-use Rattle.units.specs.Heights as heights
 use Rattle.kind.specs.Layouts.{label_of}
 use Rattle.kind.specs.Labels.{named_of}
-use Rattle.kind.specs.Labels as labels
 use Rattle.message.specs.declared.Track.{Track}
 use Rattle.message.specs.declared.Message.{Message}
 use Rattle.message.specs.declared.Message.TheVariants as m
 use Rattle.track.specs.TrackText.{text_refusal, text_after, tracked_of, number_in}
-use Rattle.track.specs.TrackText as tracks
 use Rattle.pair.specs.Opening.{Opened, open_of, word_message, first_word}
-use Rattle.pair.specs.Opening as opening
 use Rattle.pair.specs.Closing.{close_refusal, close_image}
 use Rattle.relay.specs.Relay.{relay_refusal, relay_image}
 

@@ -10,7 +10,7 @@ use mathlib.Core.List.{List}
 use Prim.Native.Nat.{ℕ}
 use lib.IntN.{ℤ}
 use contract.Lifetimes.{Lfts}
-use Rattle.std.specs.Prelude.{Result, Ok, Err}
+use Rattle.std.specs.Prelude.{Result, Err}
 use Rattle.bits.specs.Tests.{pick}
 use Rattle.refusal.specs.Table.{of_table}
 use Rattle.refusal.specs.Checks.{answered, refusal_in}

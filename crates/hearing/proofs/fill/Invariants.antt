@@ -1,5 +1,5 @@
 -- The receiver has been fed the octets passed, and the lines for them stand in the buffer.
-use Rattle.std.proofs.Common.{◌≡◌, ◌-◌, ◌*◌, ◌≤◌, length}
+use Rattle.std.proofs.Common.{◌≡◌, ◌*◌, ◌≤◌, length}
 use Rattle.text.specs.Wrote.{Wrote}
 use Rattle.octets.specs.Feeding.{fed_to}
 use Rattle.hearing.specs.Ends.{ends_to}

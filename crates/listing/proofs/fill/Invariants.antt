@@ -1,5 +1,5 @@
 -- The images so far are listed.
-use Rattle.std.proofs.Common.{◌≡◌, ◌+◌, ◌-◌, ◌*◌, ◌≤◌, length}
+use Rattle.std.proofs.Common.{◌≡◌, ◌+◌, ◌*◌, ◌≤◌, length}
 use Rattle.text.specs.Wrote.{Wrote}
 use Rattle.listing.specs.Listing.{image_lines}
 use Rattle.listing.proofs.fill.Given as goal
