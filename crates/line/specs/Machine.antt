@@ -15,6 +15,14 @@ use Rattle.line.specs.declared.Handed.{Handed}
 abbrev pub pushed : Window → ℕ → Window
 pushed w bit = record { older = w.older % 2 ^ 63 * 2 + w.newer / 2 ^ 63; newer = w.newer % 2 ^ 63 * 2 + bit }
 
+-- the same with so many bits more, those of a number, the most significant first
+abbrev pub pushed_by : Window → ℕ → ℕ → Window
+pushed_by w bits count =
+    record {
+      older = w.older % 2 ^ (64 - count) * 2 ^ count + w.newer / 2 ^ (64 - count);
+      newer = w.newer % 2 ^ (64 - count) * 2 ^ count + bits;
+    }
+
 -- the eight octets of a number, the most significant first; the sixteen of a window
 abbrev pub eight_of : ℕ → List ℕ
 eight_of n =

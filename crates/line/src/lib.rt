@@ -2,9 +2,9 @@
 
 #![tactic(auto)]
 
-ghost use Rattle.std.specs.Prelude.{◌≡◌, ◌≤◌};
+ghost use Rattle.std.specs.Prelude.{◌≡◌, ◌≤◌, ◌<◌, ◌^◌};
 ghost use Rattle.line.specs.Levels.{differ};
-ghost use Rattle.line.specs.Machine.{pushed, window_image, idle_window, handed_of, nothing_handed, fresh_of, accepted, answer_with, heard_of};
+ghost use Rattle.line.specs.Machine.{pushed_by, window_image, idle_window, handed_of, nothing_handed, fresh_of, accepted, answer_with, heard_of};
 
 use refusal::Refusal;
 
@@ -16,14 +16,14 @@ pub struct Window {
 }
 
 impl Window {
-    // One bit more; the oldest goes.
-    fn push(self, bit: u8) -> Window
-        requires { bit ≤ 1 }
-        ensures { result ≡ pushed self bit }
+    // So many bits more, those of a number, the most significant first; as many of the oldest go.
+    pub fn push(self, bits: u64, count: u32) -> Window
+        requires { (1 ≤ count) × (count < 64) × (bits < 2 ^ count) }
+        ensures { result ≡ pushed_by self bits count }
     {
         Window {
-            older: (self.older << 1) | (self.newer >> 63),
-            newer: (self.newer << 1) | u64::from(bit),
+            older: (self.older << count) | (self.newer >> (64 - count)),
+            newer: (self.newer << count) | bits,
         }
     }
 
@@ -95,10 +95,10 @@ pub struct Heard {
 }
 
 // The bit that two levels in turn give.
-fn change(before: u8, level: u8) -> u8
+fn change(before: u8, level: u8) -> u64
     ensures { result ≡ differ before level }
 {
-    u8::from(before != level)
+    u64::from(before != level)
 }
 
 impl Receiver {
@@ -119,7 +119,7 @@ impl Receiver {
         ensures { result ≡ accepted self level }
     {
         let window = if self.started {
-            self.window.push(change(self.last, level))
+            self.window.push(change(self.last, level), 1)
         } else {
             self.window
         };

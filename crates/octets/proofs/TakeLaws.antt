@@ -4,15 +4,14 @@ use mathlib.Core.List.{List, [], ◌∷◌, ◌++◌}
 use Prim.Native.Nat.{ℕ, zero, suc, ◌+◌, ◌-◌, ◌*◌, ◌/◌, ◌%◌, ◌^◌, ◌≤◌, ◌<◌}
 use native.Mathlib.Nat.{mod-lt, mul_assoc, add_assoc, add-mul, pow-suc}
 use native.Mathlib.Omega.{arith}
-use lib.Bits.{bit_or}
 use lib.ListN.{get_or, get_or-append}
 use lib.Pow.{pow_pos, pow-add, shr_lt, shr-shr, high, low, split}
 use Rattle.bits.specs.Octets.{bit_at}
 use Rattle.bits.proofs.TestLaws.{by_lt}
 use Rattle.bits.proofs.NumberLaws.{low_bit}
-use Rattle.line.specs.Machine.{window_image}
+use Rattle.line.specs.Machine.{pushed_by, window_image}
 use Rattle.line.specs.declared.Window.{Window}
-use Rattle.line.proofs.WindowLaws.{shifted_in, Low, newer_by, older_by, push_low, low_is, low_self, window_bit}
+use Rattle.line.proofs.WindowLaws.{Low, newer_by, older_by, push_low, low_is, low_self, window_bit}
 use Rattle.octets.specs.Feeding.{taken}
 
 -- ---- the number of the bits taken
@@ -37,23 +36,22 @@ taken_low w v o l h (suc j) k =
     subst (Low (taken w o (suc j))) (one_more v o j (omega arith))
     (push_low (taken w o j) (v * 2 ^ j + o / 2 ^ (8 - j)) (o / 2 ^ (7 - j) % 2) (omega arith) (taken_low w v o l h j (omega arith)))
 
--- ---- by shifts
+-- ---- at once
 
--- what the code makes of a window by shifts is the window with these bits more
-pub take_is : (w : Window) (o j : ℕ) → w.older < 2 ^ 64 → w.newer < 2 ^ 64 → o < 256 → 1 ≤ j → j ≤ 8
-    → ◌≡◌ {A = Window}
-    (record { older = bit_or ((w.older * 2 ^ j) % 2 ^ 64) (w.newer / 2 ^ (64 - j)); newer = bit_or ((w.newer * 2 ^ j) % 2 ^ 64) (o / 2 ^ (8 - j)) })
-    (taken w o j)
+-- the first j bits of an octet, as a number
+pub first_lt : (o j : ℕ) → o < 256 → j ≤ 8 → o / 2 ^ (8 - j) < 2 ^ j
+first_lt o j h few =
+    let f : 8 ≡ j + (8 - j) = omega arith in
+    shr_lt j (8 - j) (subst (λ (n : ℕ). o < 2 ^ n) f h)
+
+-- the window with these bits more at once is that with one more after the other
+pub take_is : (w : Window) (o j : ℕ) → w.older < 2 ^ 64 → w.newer < 2 ^ 64 → o < 256 → 1 ≤ j → j ≤ 8 → pushed_by w (o / 2 ^ (8 - j)) j ≡ taken w o j
 take_is w o j a b h one few =
     let v = w.older * 2 ^ 64 + w.newer in
     let u = o / 2 ^ (8 - j) in
     let l = low_self w a b in
-    let e : 64 ≡ j + (64 - j) = omega arith in
-    let f : 8 ≡ j + (8 - j) = omega arith in
-    let p : w.newer / 2 ^ (64 - j) < 2 ^ j = shr_lt j (64 - j) (subst (λ (n : ℕ). w.newer < 2 ^ n) e b) in
-    let q : u < 2 ^ j = shr_lt j (8 - j) (subst (λ (n : ℕ). o < 2 ^ n) f h) in
-    (λ i. record { older = shifted_in w.older (w.newer / 2 ^ (64 - j)) j (omega arith) p i; newer = shifted_in w.newer u j (omega arith) q i })
-    ∙ (λ i. record { older = l.older i % 2 ^ (64 - j) * 2 ^ j + l.newer i / 2 ^ (64 - j); newer = l.newer i % 2 ^ (64 - j) * 2 ^ j + u })
+    let q : u < 2 ^ j = first_lt o j h few in
+    (λ i. record { older = l.older i % 2 ^ (64 - j) * 2 ^ j + l.newer i / 2 ^ (64 - j); newer = l.newer i % 2 ^ (64 - j) * 2 ^ j + u })
     ∙ sym (low_is (taken w o j) (v * 2 ^ j + u) (taken_low w v o l h j few)
     ∙ (λ i. record { older = older_by v u j (omega arith) q i; newer = newer_by v u j (omega arith) q i }))
 

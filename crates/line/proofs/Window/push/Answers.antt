@@ -1,6 +1,6 @@
 -- `line::Window::push` meets its contract. Assumes nothing.
-use mathlib.Core.Path.{◌≡◌, ap, ap₂, ◌∙◌}
-use Prim.Native.Nat.{ℕ, ◌+◌, ◌*◌, ◌%◌, ◌^◌}
+use mathlib.Core.Path.{◌≡◌, ap₂, subst}
+use Prim.Native.Nat.{ℕ, ◌+◌, ◌-◌, ◌^◌, ◌<◌}
 use native.Mathlib.Omega.{arith}
 use borrow.Author.Rules.{rules}
 use lib.Pow.{shr_lt}
@@ -13,6 +13,8 @@ made older newer = record { older = older; newer = newer }
 
 pub returns : goal.returns
 returns c =
-    let bit : c.from.result ≡ c.args.bit = c.from.ensures in
-    ap₂ made (shifted_in _ _ 1 (omega arith) (shr_lt 1 63 (search rules)))
-    (shifted_in _ _ 1 (omega arith) (omega arith) ∙ ap (λ (n : ℕ). c.args.self.newer % 2 ^ 63 * 2 + n) bit)
+    let n = c.args.count in
+    let e : 64 ≡ n + (64 - n) = omega arith in
+    let fits : c.args.self.newer < 2 ^ 64 = search rules in
+    let left : c.args.self.newer < 2 ^ (n + (64 - n)) = subst (λ (m : ℕ). c.args.self.newer < 2 ^ m) e fits in
+    ap₂ made (shifted_in _ _ n (omega arith) (shr_lt n (64 - n) left)) (shifted_in _ _ n (omega arith) c.requires.2)
