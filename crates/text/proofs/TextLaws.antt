@@ -1,10 +1,10 @@
 -- Laws of decimal text and of a line of numbers. Assumes nothing.
-use mathlib.Core.Path.{◌≡◌, refl, sym, ap, ◌∙◌}
+use mathlib.Core.Path.{◌≡◌, refl, sym, ap, ◌∙◌, subst, subst⁻¹}
 use mathlib.Core.List.{List, [], ◌∷◌, ◌++◌, append_assoc, append-nil}
 use Prim.Native.Nat.{ℕ, zero, suc, ◌+◌, ◌-◌, ◌*◌, ◌/◌, ◌%◌, ◌^◌, ◌≤◌, ◌<◌}
-use native.Mathlib.Nat.{mul-suc, pow-suc, pow-le-pow_right, not-suc-le-zero}
+use native.Mathlib.Nat.{mul-suc, pow-suc, one-le-pow, pow-le-pow_right, not-suc-le-zero}
 use native.Mathlib.Decide.{dec_lt}
-use native.Mathlib.Numerals.{add-one}
+use native.Mathlib.Numerals.{add-one, sub-one}
 use native.Mathlib.Omega.{arith}
 use borrow.Author.Tests.{lt-ltb, le-ltb}
 use lib.ListN.{length, get_or, take, length-append}
@@ -12,7 +12,56 @@ use lib.Seq.{take-suc, take-length}
 use Rattle.std.specs.Prelude.{false, ◌==◌}
 use Rattle.std.proofs.lemmas.Grind.{common_steps}
 use Rattle.std.specs.Fmt.{digits_onto, digits, decimal}
+use Rattle.text.specs.Digits.{last_digits, IsDigitCount}
 use Rattle.text.specs.Text.{dec_by, dec, dec_then, row}
+
+-- ---- the digits of a number of which it is known how many there are
+
+-- the least number of k + 2 digits is at most n
+least : (k n : ℕ) → IsDigitCount 10 1 n (suc (suc k)) → 10 ^ suc k ≤ n
+least k n w = subst (λ (j : ℕ). 10 ^ j ≤ n) (sub-one (suc (suc k))) (w.2 (omega arith))
+
+digits_dec : (f k n : ℕ) → k < f → IsDigitCount 10 1 n (suc k) → last_digits 10 (suc k) n ≡ dec_by f n
+unfolding dec_by
+digits_dec zero k n h w = absurd (not-suc-le-zero h)
+digits_dec (suc f) zero n h w =
+    let small : n < 10 = w.1 in
+    let e : n % 10 ≡ n = omega arith in
+    simp (e, lt-ltb n 10 small)
+digits_dec (suc f) (suc k) n h w =
+    let g : 10 ^ suc k ≤ n = least k n w in
+    let p : 1 ≤ 10 ^ k = one-le-pow k 10 (omega arith) in
+    let ten : 10 ≤ n = omega (arith, pow-suc 10 k) in
+    let last : n % 10 < 10 = omega arith in
+    let upper : n / 10 < 10 ^ suc k = omega (arith, pow-suc 10 (suc k), w.1) in
+    let lower : 10 ^ k ≤ n / 10 = omega (arith, pow-suc 10 k) in
+    let ih : last_digits 10 (suc k) (n / 10) ≡ dec_by f (n / 10) =
+    digits_dec f k (n / 10) (omega arith) (omega arith, upper, λ q. subst⁻¹ (λ (j : ℕ). 10 ^ j ≤ n / 10) (sub-one (suc k)) lower) in
+    simp (ih, le-ltb n 10 ten, lt-ltb (n % 10) 10 last)
+
+below_pow : (k : ℕ) → k < 10 ^ k
+below_pow zero = omega arith
+below_pow (suc k) = omega (arith, pow-suc 10 k, below_pow k)
+
+pub decimal_dec : (k n : ℕ) → IsDigitCount 10 1 n k → last_digits 10 k n ≡ dec n
+unfolding dec
+decimal_dec zero n w = absurd (not-suc-le-zero w.0)
+decimal_dec (suc zero) n w = digits_dec (suc n) zero n (omega arith) w
+decimal_dec (suc (suc k)) n w =
+    let g : 10 ^ suc k ≤ n = least k n w in
+    digits_dec (suc n) (suc k) n (omega (arith, below_pow (suc k))) w
+
+pub at_most_20 : (k n : ℕ) → IsDigitCount 10 1 n k → n < 2 ^ 64 → k ≤ 20
+at_most_20 zero n w h = omega arith
+at_most_20 (suc zero) n w h = omega arith
+at_most_20 (suc (suc k)) n w h = go (dec_lt k 19)
+  where
+    go : Dec (k < 19) → suc (suc k) ≤ 20
+    go (yes l) = omega arith
+    go (no g) =
+        let e : 10 ^ suc k ≤ n = least k n w in
+        let l : 20 ≤ suc k = omega (arith, g) in
+        absurd (omega (arith, pow-le-pow_right {n = 10} (omega arith) l))
 
 -- ---- a number's text reads back as the number
 

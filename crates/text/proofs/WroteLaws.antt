@@ -1,12 +1,12 @@
 -- Laws of texts that are put into a buffer. Assumes nothing.
 use mathlib.Core.Path.{◌≡◌, refl, sym, ap, subst, ◌∙◌}
-use mathlib.Core.List.{List, [], ◌∷◌, ◌++◌, append_assoc}
+use mathlib.Core.List.{List, [], ◌∷◌, ◌++◌, append_assoc, append-nil}
 use Prim.Native.Nat.{ℕ, ◌+◌, ◌-◌, ◌≤◌, ◌<◌}
 use native.Mathlib.Nat.{add-zero}
 use native.Mathlib.Numerals.{add-one}
 use native.Mathlib.Omega.{arith}
-use lib.ListN.{length, take, drop, set, length-append}
-use lib.Seq.{take_at, drop_at, paste-zero, drop-drop, set_split, length-take-le, append_snoc}
+use lib.ListN.{length, take, drop, set, length-append, length-drop, drop_of_length-le}
+use lib.Seq.{take_all, take_at, drop_at, paste-zero, drop-drop, take-length, set_split, length-take-le, append_snoc}
 use borrow.Rule.Slice.PartMut.{put_mid}
 use Rattle.std.proofs.lemmas.Slice.{put_mid-paste}
 use Rattle.std.proofs.lemmas.List.Edits.{paste_all}
@@ -52,6 +52,17 @@ put_one d at b h =
       text = set_split d at b h ∙ ap (λ (k : ℕ). take at d ++ b ∷ drop k d) (sym (add-one at))
           ∙ sym (append_snoc (take at d) b (drop (at + 1) d));
     }
+
+-- what a copy of xs into the part from at on leaves
+pub put_copy : (d : List ℕ) (at : ℕ) (xs : List ℕ) → at + length xs ≤ length d
+    → take at d ++ ((take (length xs) xs ++ drop (length xs) (take (length d - at) (drop at d))) ++ drop (length d - at) (drop at d))
+    ≡ pasted d at xs
+unfolding pasted
+put_copy d at xs h =
+    let whole : take (length d - at) (drop at d) ≡ drop at d = take_all (length d - at) (drop at d) (omega (arith, length-drop at d)) in
+    let ends : length (drop at d) ≤ length d - at = omega (arith, length-drop at d) in
+    let over : drop (length d - at) (drop at d) ≡ [] = drop_of_length-le (drop at d) ends in
+    rw (whole, over, take-length, append-nil, drop-drop, append_assoc)
 
 -- what a copy of xs into the part from at to e leaves
 pub put_part : (d ys : List ℕ) (at e : ℕ) (xs : List ℕ) → ys ≡ xs → e ≡ at + length xs → Wrote d at xs (put_mid at (e - at) d ys) e
