@@ -16,22 +16,22 @@ pub struct Window {
 }
 
 impl Window {
-    // So many bits more, those of a number, the most significant first; as many of the oldest go.
-    pub fn push(self, bits: u64, count: u32) -> Window
-        requires { (1 ≤ count) × (count < 64) × (bits < 2 ^ count) }
-        ensures { result ≡ pushed_by self bits count }
-    {
-        Window {
-            older: (self.older << count) | (self.newer >> (64 - count)),
-            newer: (self.newer << count) | bits,
-        }
-    }
-
     // The sixteen octets.
     fn image(self) -> [u8; 16]
         ensures { result ≡ window_image self }
     {
         ((u128::from(self.older) << 64) | u128::from(self.newer)).to_be_bytes()
+    }
+}
+
+// The window with so many bits more, those of a number, the most significant first; as many of the oldest go.
+pub fn push(window: Window, bits: u64, count: u32) -> Window
+    requires { (1 ≤ count) × (count < 64) × (bits < 2 ^ count) }
+    ensures { result ≡ pushed_by window bits count }
+{
+    Window {
+        older: (window.older << count) | (window.newer >> (64 - count)),
+        newer: (window.newer << count) | bits,
     }
 }
 
@@ -119,7 +119,7 @@ impl Receiver {
         ensures { result ≡ accepted self level }
     {
         let window = if self.started {
-            self.window.push(change(self.last, level), 1)
+            push(self.window, change(self.last, level), 1)
         } else {
             self.window
         };

@@ -29,7 +29,7 @@ fn take(window: Window, octet: u8, j: u32) -> Window
     requires { (1 ≤ j) × (j ≤ 8) }
     ensures { result ≡ taken window octet j }
 {
-    window.push(u64::from(octet) >> (8 - j), j)
+    line::push(window, u64::from(octet) >> (8 - j), j)
 }
 
 // The one bit of the next octet at which a frame can end, or 0. A frame that ends at bit j begins j bits behind the front of the
