@@ -11,63 +11,69 @@ ghost use Rattle.frame.specs.Frame.{start_good, marks_good, checks_good, frame_v
 
 use refusal::Refusal;
 
-// The start group of the frame at a position: eight zeros.
-fn is_started(octets: &[u8], position: usize) -> bool
-    requires { LiesWhole octets.now position }
-    ensures { result ≡ start_good (frame_at octets.now position) }
-{
-    (0..8).all(|i| bits::bit(octets, position + (i + 1)) == 0)
+// A frame where it lies: whole in a run of octets, at a position.
+#[derive(Clone, Copy)]
+pub struct Frame<'a> {
+    pub octets: &'a [u8],
+    pub position: usize,
+    ghost whole: { LiesWhole octets.now position },
 }
 
-// The fifteen marks and the final one.
-fn is_marked(octets: &[u8], position: usize) -> bool
-    requires { LiesWhole octets.now position }
-    ensures { result ≡ marks_good (frame_at octets.now position) }
-{
-    (0..15).all(|g| bits::bit(octets, position + (8 * g + 9)) == 1)
-        && bits::bit(octets, position + 128) == 1
-}
-
-// Bit j of the fourteen data groups and check bit j, gathered as a number of fifteen bits.
-pub fn column(octets: &[u8], position: usize, j: usize) -> u32
-    requires { LiesWhole octets.now position × (1 ≤ j) × (j ≤ 6) }
-    ensures { result ≡ num_of (λ g. frame_at octets.now position (8 * g + 9 + j)) 15 }
-{
-    let mut gathered: u32 = 0;
-    for g in 0..15 {
-        gathered |= u32::from(bits::bit(octets, position + (8 * g + 9 + j))) << g;
+impl<'a> Frame<'a> {
+    // The start group: eight zeros.
+    fn is_started(self) -> bool
+        ensures { result ≡ start_good (frame_at self.entry.octets.now self.entry.position) }
+    {
+        (0..8).all(|i| bits::bit(self.octets, self.position + (i + 1)) == 0)
     }
-    gathered
-}
 
-// Each of the six check bits makes the ones of its column odd.
-fn is_checked(octets: &[u8], position: usize) -> bool
-    requires { LiesWhole octets.now position }
-    ensures { result ≡ checks_good (frame_at octets.now position) }
-{
-    for i in 0..6 {
-        if column(octets, position, i + 1).count_ones() % 2 != 1 {
-            return false;
+    // The fifteen marks and the final one.
+    fn is_marked(self) -> bool
+        ensures { result ≡ marks_good (frame_at self.entry.octets.now self.entry.position) }
+    {
+        (0..15).all(|g| bits::bit(self.octets, self.position + (8 * g + 9)) == 1)
+            && bits::bit(self.octets, self.position + 128) == 1
+    }
+
+    // Bit j of the fourteen data groups and check bit j, gathered as a number of fifteen bits.
+    pub fn column(self, j: usize) -> u32
+        requires { (1 ≤ j) × (j ≤ 6) }
+        ensures { result ≡ num_of (λ g. frame_at self.entry.octets.now self.entry.position (8 * g + 9 + j)) 15 }
+    {
+        let mut gathered: u32 = 0;
+        for g in 0..15 {
+            gathered |= u32::from(bits::bit(self.octets, self.position + (8 * g + 9 + j))) << g;
         }
+        gathered
     }
-    true
-}
 
-// What is wrong first with the frame at a position, if anything. The check bits are counted last.
-pub fn verdict_at(octets: &[u8], position: usize) -> Result<(), Refusal>
-    requires { LiesWhole octets.now position }
-    ensures { result ≡ answered (frame_verdict (frame_at octets.now position)) tt }
-{
-    if !is_started(octets, position) {
-        return Err(Refusal::of(refusal::BAD_START));
+    // Each of the six check bits makes the ones of its column odd.
+    fn is_checked(self) -> bool
+        ensures { result ≡ checks_good (frame_at self.entry.octets.now self.entry.position) }
+    {
+        for i in 0..6 {
+            if self.column(i + 1).count_ones() % 2 != 1 {
+                return false;
+            }
+        }
+        true
     }
-    if !is_marked(octets, position) {
-        return Err(Refusal::of(refusal::BAD_MARK));
+
+    // What is wrong first with the frame, if anything. The check bits are counted last.
+    pub fn verdict(self) -> Result<(), Refusal>
+        ensures { result ≡ answered (frame_verdict (frame_at self.entry.octets.now self.entry.position)) tt }
+    {
+        if !self.is_started() {
+            return Err(Refusal::of(refusal::BAD_START));
+        }
+        if !self.is_marked() {
+            return Err(Refusal::of(refusal::BAD_MARK));
+        }
+        if !self.is_checked() {
+            return Err(Refusal::of(refusal::BAD_CHECK));
+        }
+        Ok(())
     }
-    if !is_checked(octets, position) {
-        return Err(Refusal::of(refusal::BAD_CHECK));
-    }
-    Ok(())
 }
 
 // The zeros at the front of an octet. A good frame that begins so many bits behind the front of the octet before, 8 at most, has the
@@ -85,5 +91,9 @@ pub fn verdict(image: &[u8]) -> Result<(), Refusal>
     if image.len() != 16 {
         return Err(Refusal::of(refusal::BAD_LENGTH));
     }
-    verdict_at(image, 0)
+    let frame = Frame {
+        octets: image,
+        position: 0,
+    };
+    frame.verdict()
 }

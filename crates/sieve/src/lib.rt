@@ -7,6 +7,7 @@ ghost use Rattle.frame.specs.Frame.{LiesWhole};
 ghost use Rattle.sieve.specs.Capture.{good_at};
 ghost use Rattle.sieve.specs.Sieve.{PassedOver, Seen};
 
+use frame::Frame;
 use std::ops::ControlFlow;
 
 // What was seen: a good frame to stop at, or none before a position to go on from.
@@ -45,7 +46,14 @@ fn is_frame(capture: &[u8], q: usize) -> bool
     requires { LiesWhole capture.now 0 }
     ensures { result ≡ good_at capture.now q }
 {
-    q <= 8 * capture.len() - 128 && frame::verdict_at(capture, q).is_ok()
+    if 8 * capture.len() - 128 < q {
+        return false;
+    }
+    let frame = Frame {
+        octets: capture,
+        position: q,
+    };
+    frame.verdict().is_ok()
 }
 
 // Looks from position p to the end of its octet. A frame that begins there has its first mark where the next octet has its first

@@ -8,6 +8,8 @@ ghost use Rattle.bits.specs.Octets.{bit_at};
 ghost use Rattle.words.specs.Words.{word_of, image_of};
 ghost use Rattle.words.specs.Packing.{data_group, mirrored_of, message_stored, check_octet};
 
+use frame::Frame;
+
 // A message is printed in seven groups.
 const GROUPS: usize = 7;
 
@@ -74,9 +76,13 @@ fn check_octet(image: &[u8]) -> u8
     requires { length image.now ≡ 16 }
     ensures { result ≡ check_octet image.now }
 {
+    let frame = Frame {
+        octets: image,
+        position: 0,
+    };
     let mut checks: u8 = 0;
     for i in 0..6 {
-        checks |= (((frame::column(image, 0, 6 - i).count_ones() + 1) % 2) as u8) << i;
+        checks |= (((frame.column(6 - i).count_ones() + 1) % 2) as u8) << i;
     }
     129 | (checks << 1)
 }

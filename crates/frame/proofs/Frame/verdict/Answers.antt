@@ -1,4 +1,4 @@
--- `frame::verdict_at` meets its contract: the tests in turn. Assumes nothing.
+-- `frame::Frame::verdict` meets its contract: the tests in turn. Assumes nothing.
 use mathlib.Core.Path.{◌≡◌, refl, sym, ap, ◌∙◌}
 use mathlib.Core.Bool.{Bool}
 use Prim.Native.Nat.{ℕ}
@@ -8,7 +8,7 @@ use Rattle.refusal.specs.Checks.{answered}
 use Rattle.frame.specs.Frame.{start_good, marks_good, checks_good, frame_verdict}
 use Rattle.frame.proofs.ThreeTests.{verdict_by}
 use Rattle.frame.proofs.FrameLaws.{by_tests}
-use Rattle.frame.proofs.verdict_at.Goals as goal
+use Rattle.frame.proofs.Frame.verdict.Goals as goal
 
 answer : (b : ℕ → ℕ) {s m k : Bool} → start_good b ≡ s → marks_good b ≡ m → checks_good b ≡ k → answered (verdict_by s m k) (tt {0}) ≡ answered (frame_verdict b) tt
 answer b es em ek = sym (ap (λ (r : Refusal). answered r (tt {0})) (by_tests b es em ek))
