@@ -13,18 +13,21 @@ use Rattle.std.specs.declared.ops.Range.{Range}
 use Rattle.std.proofs.iter.Yields.{nat_range_steps}
 use Rattle.std.proofs.lemmas.Iterator.{YieldsList-from_range, cases_from_all}
 use Rattle.std.proofs.lemmas.List.FromFn.{length-range_with_len, get_or-range_with_len}
-use lib.ListN.{length}
+use lib.ListN.{length, get_or}
 use Rattle.bits.specs.Tests.{every}
 use Rattle.bits.proofs.TestLaws.{every_all, every_fails}
 
 module _ (f : ℕ → Bool) (n : ℕ) where
+  number : (k : ℕ) → k < n → get_or (range_with_len 0 n) k 0 ≡ k
+  number k l = get_or-range_with_len 0 n k 0 l ∙ zero-add k
+
   by_cases : (r : Bool) → MatchBool r (AllWithin (λ k. f k ≡ true) (range_with_len 0 n) 0 (length (range_with_len 0 n)))
       ((k : ℕ) × (k < length (range_with_len 0 n)) × HoldsAt (λ k. f k ≡ false) (range_with_len 0 n) k) → r ≡ every f n
   by_cases true all =
-      sym (every_all f n (λ k l. ap f (sym (get_or-range_with_len 0 n k 0 l ∙ zero-add k)) ∙ all k 0 (omega arith) (omega (arith, length-range_with_len 0 n))))
+      sym (every_all f n (λ k l. ap f (sym (number k l)) ∙ all k 0 (omega arith) (omega (arith, length-range_with_len 0 n))))
   by_cases false (k, l, fails) =
       let m : k < n = omega (arith, length-range_with_len 0 n) in
-      sym (every_fails f n k m (ap f (sym (get_or-range_with_len 0 n k 0 m ∙ zero-add k)) ∙ fails 0))
+      sym (every_fails f n k m (ap f (sym (number k m)) ∙ fails 0))
 
   -- a closure that answers f of each number, and stays as it is
   pub every_by_all : {F : Type 0} {g : Mut F (ℕ × Unit {0}) Bool} {s u : Range ℕ} {p : F} {r : Bool}

@@ -45,10 +45,12 @@ module _ (image : List ℕ) (previous : ℕ) (buffer : List ℕ) where
   buffer_written e = sym (given (send_refusal image previous buffer) _ _ e)
 
   -- the whole answer of a refusal, and of a success
-  pub sent_refused : (r : Refusal) → send_refusal image previous buffer ≡ r → (r.number ≡ success → ⊥) → Sent image previous buffer (Err r) buffer
+  pub sent_refused : (r : Refusal) → send_refusal image previous buffer ≡ r → (r.number ≡ success → ⊥)
+      → Sent image previous buffer (Err r) buffer
   sent_refused r e h = (sym (answer_refused tt e h), buffer_stays r e h)
 
-  pub sent_written : (send_refusal image previous buffer).number ≡ success → Sent image previous buffer (Ok tt) (levels_after previous (image_bits image))
+  pub sent_written : (send_refusal image previous buffer).number ≡ success
+      → Sent image previous buffer (Ok tt) (levels_after previous (image_bits image))
   sent_written e = (sym (given (send_refusal image previous buffer) _ _ e), buffer_written e)
 
 -- ---- the loop

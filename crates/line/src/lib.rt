@@ -4,7 +4,8 @@
 
 ghost use Rattle.std.specs.Prelude.{◌≡◌, ◌≤◌, ◌<◌, ◌^◌};
 ghost use Rattle.line.specs.Levels.{differ};
-ghost use Rattle.line.specs.Machine.{pushed_by, window_image, idle_window, handed_of, nothing_handed, fresh_of, accepted, answer_with, heard_of};
+ghost use Rattle.line.specs.Machine.{pushed_by, window_image, idle_window, handed_of, nothing_handed};
+ghost use Rattle.line.specs.Machine.{fresh_of, accepted, answer_with, heard_of};
 
 use refusal::Refusal;
 

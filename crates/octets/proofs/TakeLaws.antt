@@ -45,7 +45,8 @@ first_lt o j h few =
     shr_lt j (8 - j) (subst (λ (n : ℕ). o < 2 ^ n) f h)
 
 -- the window with these bits more at once is that with one more after the other
-pub take_is : (w : Window) (o j : ℕ) → w.older < 2 ^ 64 → w.newer < 2 ^ 64 → o < 256 → 1 ≤ j → j ≤ 8 → pushed_by w (o / 2 ^ (8 - j)) j ≡ taken w o j
+pub take_is : (w : Window) (o j : ℕ) → w.older < 2 ^ 64 → w.newer < 2 ^ 64 → o < 256 → 1 ≤ j → j ≤ 8
+    → pushed_by w (o / 2 ^ (8 - j)) j ≡ taken w o j
 take_is w o j a b h one few =
     let v = w.older * 2 ^ 64 + w.newer in
     let u = o / 2 ^ (8 - j) in

@@ -92,12 +92,15 @@ pub idle_run : (s : List ℕ) (i n : ℕ) → i + n ≤ length s → ((k : ℕ) 
 idle_run s i zero h odd = rw (add-zero i) (pass_none s i (omega arith))
 idle_run s i (suc n) h odd =
     let e : i + n + 1 ≡ i + suc n = omega arith in
-    subst (PassedOver s i) e (idle_more s i (i + n) (idle_run s i n (omega arith) (λ k l. odd k (omega arith))) (omega arith) (odd n (omega arith)))
+    let before = idle_run s i n (omega arith) (λ k l. odd k (omega arith)) in
+    subst (PassedOver s i) e (idle_more s i (i + n) before (omega arith) (odd n (omega arith)))
 
 -- the same of the octets from i on as a part of the capture
-pub idle_part : (s : List ℕ) (i n : ℕ) → i ≤ length s → n ≤ length s - i → AllWithin (λ x. x % 2 ≡ 0 → ⊥) (between i (length s) s) 0 n → PassedOver s i (i + n)
+pub idle_part : (s : List ℕ) (i n : ℕ) → i ≤ length s → n ≤ length s - i
+    → AllWithin (λ x. x % 2 ≡ 0 → ⊥) (between i (length s) s) 0 n → PassedOver s i (i + n)
 idle_part s i n h l odd =
-    idle_run s i n (omega arith) (λ k m e. odd k 0 (omega arith) m (ap (λ (x : ℕ). x % 2) (get_or-between s i (length s) k 0 (omega arith)) ∙ e))
+    idle_run s i n (omega arith)
+    (λ k m e. odd k 0 (omega arith) m (ap (λ (x : ℕ). x % 2) (get_or-between s i (length s) k 0 (omega arith)) ∙ e))
 
 -- ---- the marks
 

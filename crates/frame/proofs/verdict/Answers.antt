@@ -14,4 +14,5 @@ returns-then-image-ne16 c =
 pub returns : goal.returns
 returns c =
     let s = c.args.image.now in
-    c.verdict.ensures ∙ ap (λ (r : Refusal). answered r (tt {0})) (ap frame_verdict (frame_0 s) ∙ sym (verdict_image s c.if-image-ne16.false))
+    c.verdict.ensures
+    ∙ ap (λ (r : Refusal). answered r (tt {0})) (ap frame_verdict (frame_0 s) ∙ sym (verdict_image s c.if-image-ne16.false))

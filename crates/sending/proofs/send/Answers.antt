@@ -16,7 +16,8 @@ returns-then-image-ne16 c = rw c.of.ensures (sent_refused _ _ _ _ (bad_image _ _
 
 pub returns-then-levels-ne128 : goal.returns-then-levels-ne128
 returns-then-levels-ne128 c =
-    rw c.of-then-levels-ne128.ensures (sent_refused _ _ _ _ (bad_buffer _ _ _ c.if-image-ne16.false c.if-levels-ne128.true) (λ q. omega arith))
+    rw c.of-then-levels-ne128.ensures
+    (sent_refused _ _ _ _ (bad_buffer _ _ _ c.if-image-ne16.false c.if-levels-ne128.true) (λ q. omega arith))
 
 pub returns-then-previous-gt1 : goal.returns-then-previous-gt1
 returns-then-previous-gt1 c =

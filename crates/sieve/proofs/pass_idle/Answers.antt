@@ -17,7 +17,8 @@ returns-in-Some c =
     let s = c.args.capture.now in
     let i = c.args.i in
     let first = IsFirst-from_position _ _ _ (λ (x : ℕ). x % 2 ≡ 0) (λ (x : ℕ). x % 2 ≡ 0 → ⊥) c.in-Some.ensures.ran
-    (YieldsList-from_slice (between i (length s) s) c.iter.ensures.rest) (λ x q k. search (rules, tests)) (λ x q k. search (rules, tests)) in
+    (YieldsList-from_slice (between i (length s) s) c.iter.ensures.rest)
+    (λ x q k. search (rules, tests)) (λ x q k. search (rules, tests)) in
     idle_part s i c.in-Some.passed (search rules) (omega (arith, first.0, length-between s i (length s) (omega arith))) first.2
 
 pub returns-in-None : goal.returns-in-None
@@ -25,7 +26,8 @@ returns-in-None c =
     let s = c.args.capture.now in
     let i = c.args.i in
     let none = IsFirst-from_position _ _ _ (λ (x : ℕ). x % 2 ≡ 0) (λ (x : ℕ). x % 2 ≡ 0 → ⊥) c.in-None.ensures.ran
-    (YieldsList-from_slice (between i (length s) s) c.iter.ensures.rest) (λ x q k. search (rules, tests)) (λ x q k. search (rules, tests)) in
+    (YieldsList-from_slice (between i (length s) s) c.iter.ensures.rest)
+    (λ x q k. search (rules, tests)) (λ x q k. search (rules, tests)) in
     let n = length (between i (length s) s) in
     let e : n ≡ length s - i = length-between s i (length s) (omega arith) in
     let end : i + n ≡ length s = omega arith in

@@ -38,7 +38,8 @@ loop-i-preserved c =
     let s = c.args.image.now in
     let i = c.loop-i.i in
     num_turn (check_at s) 8 i _ _ (search rules) (check_lt s) c.loop-i.invariant
-    (ap (λ (n : ℕ). (ones n + 1) % 2) c.column.ensures ∙ ap (λ (n : ℕ). (n + 1) % 2) (column_ones s 0 (6 - i) ∙ ap (λ (b : ℕ → ℕ). column_of b (6 - i)) (frame_0 s)))
+    (ap (λ (n : ℕ). (ones n + 1) % 2) c.column.ensures
+    ∙ ap (λ (n : ℕ). (n + 1) % 2) (column_ones s 0 (6 - i) ∙ ap (λ (b : ℕ → ℕ). column_of b (6 - i)) (frame_0 s)))
 
 pub returns : goal.returns
 returns c =

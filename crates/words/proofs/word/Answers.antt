@@ -26,7 +26,8 @@ place-gathered-requires c =
     let l = c.loop-group in
     let s = c.args.image.now in
     let octet = get_or s c.data_group.result 0 in
-    (rw l.invariant (num_lt _ _ (λ i _. bit_lt s _)), rw (c.from-in-loop-group.ensures, c.from.ensures) (seven_lt _ c.mirroring-mirrored.ensures octet), search rules)
+    let small = seven_lt _ c.mirroring-mirrored.ensures octet in
+    (rw l.invariant (num_lt _ _ (λ i _. bit_lt s _)), rw (c.from-in-loop-group.ensures, c.from.ensures) small, search rules)
 
 pub loop-group-preserved : goal.loop-group-preserved
 loop-group-preserved c =
@@ -34,8 +35,9 @@ loop-group-preserved c =
     let a = c.args in
     let f : ℕ → ℕ = λ i. bit_at a.image.now (place_of a.k (i + 1)) in
     let next : l.group ≡ l.group + 1 - 1 = omega arith in
+    let seven = c.from-in-loop-group.ensures ∙ ap (λ (n : ℕ). get_or c.mirroring-mirrored.result n 0) c.from.ensures in
     c.place-gathered.ensures.0
     ∙ ap₂ (λ (x y : ℕ). x * 2 ^ (7 * (l.group - 1)) + y)
-    (c.from-in-loop-group.ensures ∙ ap (λ (n : ℕ). get_or c.mirroring-mirrored.result n 0) c.from.ensures ∙ group_read _ c.mirroring-mirrored.ensures a.image.now a.k l.group _ c.data_group.ensures (search rules))
+    (seven ∙ group_read _ c.mirroring-mirrored.ensures a.image.now a.k l.group _ c.data_group.ensures (search rules))
     l.invariant
     ∙ group_more f l.group (search rules) ∙ ap (λ (n : ℕ). num_of f (7 * n)) next

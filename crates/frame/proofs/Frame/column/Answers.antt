@@ -13,5 +13,6 @@ loop-g-init c = sym (num_none _)
 pub loop-g-preserved : goal.loop-g-preserved
 loop-g-preserved c =
     let a = c.args in
-    num_turn (λ h. frame_at a.self.octets.now a.self.position (8 * h + 9 + a.j)) 32 c.loop-g.g _ c.from.result (search rules) (λ h. bit_lt a.self.octets.now _)
+    let s = a.self.octets.now in
+    num_turn (λ h. frame_at s a.self.position (8 * h + 9 + a.j)) 32 c.loop-g.g _ c.from.result (search rules) (λ h. bit_lt s _)
     c.loop-g.invariant (c.from.ensures ∙ c.bit.ensures)

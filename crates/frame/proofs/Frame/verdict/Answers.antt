@@ -10,7 +10,8 @@ use Rattle.frame.proofs.ThreeTests.{verdict_by}
 use Rattle.frame.proofs.FrameLaws.{by_tests}
 use Rattle.frame.proofs.Frame.verdict.Goals as goal
 
-answer : (b : ℕ → ℕ) {s m k : Bool} → start_good b ≡ s → marks_good b ≡ m → checks_good b ≡ k → answered (verdict_by s m k) (tt {0}) ≡ answered (frame_verdict b) tt
+answer : (b : ℕ → ℕ) {s m k : Bool} → start_good b ≡ s → marks_good b ≡ m → checks_good b ≡ k
+    → answered (verdict_by s m k) (tt {0}) ≡ answered (frame_verdict b) tt
 answer b es em ek = sym (ap (λ (r : Refusal). answered r (tt {0})) (by_tests b es em ek))
 
 pub returns-then-not-is_started : goal.returns-then-not-is_started
