@@ -8,19 +8,8 @@ use parts::show;
 use std::io;
 use std::io::{Read, Write};
 
-// How much of a line has come, and whether it is longer than is taken.
-#[derive(Clone, Copy)]
-struct Line {
-    length: usize,
-    long: bool,
-}
-
-fn begin() -> Line {
-    Line {
-        length: 0,
-        long: false,
-    }
-}
+// How much of a line has come; none where it is longer than is taken.
+type Length = Option<usize>;
 
 // An empty line and a note are answered by themselves.
 fn answer_whole<W: Write>(out: &mut W, line: &[u8], space: &mut [u8]) -> io::Result<()> {
@@ -31,94 +20,56 @@ fn answer_whole<W: Write>(out: &mut W, line: &[u8], space: &mut [u8]) -> io::Res
     }
 }
 
-fn answer<W: Write>(out: &mut W, l: Line, line: &[u8], space: &mut [u8]) -> io::Result<()> {
-    if l.long || line.len() < l.length {
-        return show::refuse(out);
+fn answer<W: Write>(out: &mut W, length: Length, line: &[u8], space: &mut [u8]) -> io::Result<()> {
+    match length.and_then(|length| line.get(..length)) {
+        Some(line) => answer_whole(out, line, space)?,
+        None => show::refuse(out)?,
     }
-    answer_whole(out, &line[..l.length], space)
+    show::text(out, b"\n")
 }
 
-fn finish<W: Write>(out: &mut W, l: Line, line: &[u8], space: &mut [u8]) -> io::Result<Line> {
-    answer(out, l, line, space)?;
-    show::text(out, b"\n")?;
-    Ok(begin())
-}
-
-fn take(mut l: Line, c: u8, line: &mut [u8]) -> Line {
-    let k = l.length;
-    if k < line.len() {
-        line[k] = c;
-        l.length = k + 1;
-    } else {
-        l.long = true;
-    }
-    l
-}
-
-fn step<W: Write>(
-    out: &mut W,
-    l: Line,
-    c: u8,
-    line: &mut [u8],
-    space: &mut [u8],
-) -> io::Result<Line> {
-    if c == b'\n' {
-        return finish(out, l, line, space);
-    }
-    Ok(take(l, c, line))
+fn take(length: Length, c: u8, line: &mut [u8]) -> Length {
+    let k = length?;
+    *line.get_mut(k)? = c;
+    Some(k.wrapping_add(1))
 }
 
 fn feed<W: Write>(
     out: &mut W,
-    given: Line,
+    given: Length,
     chunk: &[u8],
     line: &mut [u8],
     space: &mut [u8],
-) -> io::Result<Line> {
-    let mut l = given;
+) -> io::Result<Length> {
+    let mut length = given;
     for c in chunk {
-        l = step(out, l, *c, line, space)?;
+        if *c == b'\n' {
+            answer(out, length, line, space)?;
+            length = Some(0);
+        } else {
+            length = take(length, *c, line);
+        }
     }
-    Ok(l)
+    Ok(length)
 }
 
-// The line so far, and whether the input goes on.
-#[derive(Clone, Copy)]
-struct Taken {
-    more: bool,
-    line: Line,
-}
-
-fn take_some<R: Read, W: Write>(
-    rt: &impl Eprint,
-    from: &mut R,
-    out: &mut W,
-    l: Line,
-    line: &mut [u8],
-    space: &mut [u8],
-) -> io::Result<Taken> {
-    let mut chunk = [0u8; 4096];
-    match from.read(&mut chunk) {
-        Ok(n) => Ok(Taken {
-            more: n != 0,
-            line: feed(out, l, &chunk[..n], line, space)?,
-        }),
+// What comes next: nothing at the end, or where the input cannot be read, which is told.
+fn read_some<'a, R: Read>(rt: &impl Eprint, from: &mut R, chunk: &'a mut [u8]) -> &'a [u8] {
+    match from.read(chunk) {
+        Ok(n) => &chunk[..n],
         Err(_) => {
             let _ = rt.eprintln("replay: the calls on standard input cannot be read");
-            Ok(Taken {
-                more: false,
-                line: l,
-            })
+            &[]
         }
     }
 }
 
 // A last line that no line feed ends is answered too.
-fn close<W: Write>(out: &mut W, l: Line, line: &[u8], space: &mut [u8]) -> io::Result<()> {
-    if l.length != 0 {
-        finish(out, l, line, space)?;
+fn close<W: Write>(out: &mut W, length: Length, line: &[u8], space: &mut [u8]) -> io::Result<()> {
+    match length {
+        Some(0) => Ok(()),
+        _ => answer(out, length, line, space),
     }
-    Ok(())
 }
 
 // Reads until the input ends. That the loop ends for any input is shown by counting the reads, more than a file of calls can need.
@@ -129,13 +80,14 @@ fn run<R: Read, W: Write>(
     line: &mut [u8],
     space: &mut [u8],
 ) -> io::Result<()> {
-    let mut l = begin();
+    let mut length = Some(0);
     for _ in 0..u64::MAX {
-        let taken = take_some(rt, from, out, l, line, space)?;
-        l = taken.line;
-        if !taken.more {
-            return close(out, l, line, space);
+        let mut chunk = [0u8; 4096];
+        let some = read_some(rt, from, &mut chunk);
+        if some.is_empty() {
+            return close(out, length, line, space);
         }
+        length = feed(out, length, some, line, space)?;
     }
     Ok(())
 }
