@@ -4,7 +4,7 @@
 
 ghost use Rattle.std.specs.Prelude.{◌≡◌, ◌+◌, ◌*◌, ◌≤◌, ◌<◌, ◌^◌, ltb, length};
 ghost use Rattle.std.specs.Int.Signed.{mag};
-ghost use Rattle.bits.specs.Numbers.{bit, field_of, placed_of};
+ghost use Rattle.bits.specs.Numbers.{field_of, placed_of};
 ghost use Rattle.bits.specs.Octets.{bit_at};
 ghost use Rattle.bits.specs.Tests.{pick};
 ghost use Rattle.bits.specs.Twos.{signed_of, unsigned_of};
@@ -72,11 +72,4 @@ pub fn signed_bits(z: i16, sign: u64) -> u64
     } else {
         sign * 2
     }
-}
-
-// A yes or no as a bit.
-pub fn bit_of(yes: bool) -> u64
-    ensures { result ≡ bit yes }
-{
-    if yes { 1 } else { 0 }
 }
