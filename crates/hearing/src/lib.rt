@@ -26,7 +26,7 @@ fn put_end(out: &mut [u8], at: usize, k: usize, heard: HeardOctet) -> usize
     ensures { Wrote out.old at (lines_of (end_in k heard)) out.new result }
 {
     if heard.frame {
-        return text::put_number(out, at, (8 * k + heard.bit as usize) as u64, b'\n');
+        return text::put_number(out, at, (8 * k + usize::from(heard.bit)) as u64, b'\n');
     }
     at
 }

@@ -71,5 +71,5 @@ pub fn find_kind(word: u64) -> Option<Kind>
 pub fn kind_named(label: u8) -> Result<Kind, Refusal>
     ensures { result ≡ named_of label }
 {
-    find_label(label as u64).ok_or(Refusal::of(refusal::UNKNOWN_LABEL))
+    find_label(u64::from(label)).ok_or(Refusal::of(refusal::UNKNOWN_LABEL))
 }

@@ -29,7 +29,7 @@ pub fn field<W: Write>(out: &mut W, n: Option<i64>) -> io::Result<()> {
 
 // A refusal's number, place and bit, with no space before them.
 pub fn refusal<W: Write>(out: &mut W, r: Refusal) -> io::Result<()> {
-    write!(out, "{} {} {}", r.number, r.place, r.bit)
+    write!(out, "{r}")
 }
 
 // 64 bits in hexadecimal.
