@@ -9,47 +9,82 @@ use std::io;
 use std::io::Write;
 use units::{AltSteps, LinkSteps};
 
+// The words of a kind's fields.
+fn words_of(kind: Kind) -> &'static [&'static str] {
+    match kind {
+        Kind::Blank | Kind::S0 => &[],
+        Kind::S3 => &[
+            "mode3a",
+            "request",
+            "emergency",
+            "validation",
+            "mode1",
+            "mode2",
+        ],
+        Kind::S4 | Kind::S4Plus | Kind::S8 | Kind::S8Plus => &["number", "quality", "x", "y"],
+        Kind::S5 => &[
+            "altitude",
+            "strength",
+            "identification",
+            "special23",
+            "simulated",
+            "drop",
+            "traffic",
+            "vx",
+            "allocation",
+            "special39",
+            "vy",
+        ],
+        Kind::S6 => &[
+            "acquisition",
+            "width",
+            "strobe_type",
+            "simulated",
+            "azimuth",
+            "site",
+            "sensor",
+            "number",
+            "elevation",
+            "age",
+        ],
+        Kind::S9 => &["area", "site", "number", "drop", "x", "y"],
+    }
+}
+
 // ---- read from a line's parts
 
-// A line, and the part of it that comes next.
+// A line, the part of it that comes next, and the words of the fields with how many have passed.
 #[derive(Clone, Copy)]
 struct Walk<'a> {
     line: &'a [u8],
     next: usize,
+    words: &'static [&'static str],
+    passed: usize,
 }
 
 impl<'a> Walk<'a> {
-    // Passes a part, and answers which.
-    fn pass(&mut self) -> usize {
+    // Passes a field, and answers the part that its number is.
+    fn pass(&mut self) -> Option<usize> {
+        let word = self.words.get(self.passed)?;
         let part = self.next;
-        self.next = part.wrapping_add(1);
-        part
+        self.passed = self.passed.wrapping_add(1);
+        self.next = part.wrapping_add(2);
+        parts::says(self.line, part, word.as_bytes()).then_some(part.wrapping_add(1))
     }
 
-    // Passes a word.
-    fn word(&mut self, word: &[u8]) -> Option<()> {
-        parts::says(self.line, self.pass(), word).then_some(())
-    }
-
-    // Passes a field: its word, and its number.
-    fn field<T: TryFrom<i64>>(&mut self, word: &[u8]) -> Option<T>
+    fn field<T: TryFrom<i64>>(&mut self) -> Option<T>
     where
         T::Error: Drop,
     {
-        self.word(word)?;
-        numbers::at(self.line, self.pass(), 0)
+        numbers::at(self.line, self.pass()?, 0)
     }
 
-    // The same, 0 or 1.
-    fn flag(&mut self, word: &[u8]) -> Option<bool> {
-        self.word(word)?;
-        numbers::bool_at(self.line, self.pass(), 0)
+    fn flag(&mut self) -> Option<bool> {
+        numbers::bool_at(self.line, self.pass()?, 0)
     }
 
-    // The same, a mode, which may be absent.
-    fn mode(&mut self, word: &[u8]) -> Option<Option<u16>> {
-        self.word(word)?;
-        let part = self.pass();
+    fn mode(&mut self) -> Option<Option<u16>> {
+        let part = self.pass()?;
         if parts::says(self.line, part, b"absent") {
             return Some(None);
         }
@@ -58,68 +93,68 @@ impl<'a> Walk<'a> {
 
     fn iff(&mut self) -> Option<Iff> {
         Some(Iff {
-            mode3a: self.mode(b"mode3a")?,
-            request: self.field(b"request")?,
-            emergency: self.flag(b"emergency")?,
-            validation: self.flag(b"validation")?,
-            mode1: self.mode(b"mode1")?,
-            mode2: self.mode(b"mode2")?,
+            mode3a: self.mode()?,
+            request: self.field()?,
+            emergency: self.flag()?,
+            validation: self.flag()?,
+            mode1: self.mode()?,
+            mode2: self.mode()?,
         })
     }
 
     fn track(&mut self) -> Option<Track> {
         Some(Track {
-            number: self.field(b"number")?,
-            quality: self.field(b"quality")?,
-            x: LinkSteps(self.field(b"x")?),
-            y: LinkSteps(self.field(b"y")?),
+            number: self.field()?,
+            quality: self.field()?,
+            x: LinkSteps(self.field()?),
+            y: LinkSteps(self.field()?),
         })
     }
 
     fn amplifying(&mut self) -> Option<Amplifying> {
         Some(Amplifying {
-            altitude: AltSteps(self.field(b"altitude")?),
-            strength: self.field(b"strength")?,
-            identification: self.field(b"identification")?,
-            special23: self.field(b"special23")?,
-            simulated: self.flag(b"simulated")?,
-            drop: self.flag(b"drop")?,
-            traffic: self.field(b"traffic")?,
-            vx: self.field(b"vx")?,
-            allocation: self.field(b"allocation")?,
-            special39: self.field(b"special39")?,
-            vy: self.field(b"vy")?,
+            altitude: AltSteps(self.field()?),
+            strength: self.field()?,
+            identification: self.field()?,
+            special23: self.field()?,
+            simulated: self.flag()?,
+            drop: self.flag()?,
+            traffic: self.field()?,
+            vx: self.field()?,
+            allocation: self.field()?,
+            special39: self.field()?,
+            vy: self.field()?,
         })
     }
 
     fn strobe(&mut self) -> Option<Strobe> {
         Some(Strobe {
-            acquisition: self.flag(b"acquisition")?,
-            width: self.field(b"width")?,
-            strobe_type: self.field(b"strobe_type")?,
-            simulated: self.flag(b"simulated")?,
-            azimuth: self.field(b"azimuth")?,
-            site: self.field(b"site")?,
-            sensor: self.field(b"sensor")?,
-            number: self.field(b"number")?,
-            elevation: self.field(b"elevation")?,
-            age: self.field(b"age")?,
+            acquisition: self.flag()?,
+            width: self.field()?,
+            strobe_type: self.field()?,
+            simulated: self.flag()?,
+            azimuth: self.field()?,
+            site: self.field()?,
+            sensor: self.field()?,
+            number: self.field()?,
+            elevation: self.field()?,
+            age: self.field()?,
         })
     }
 
     fn corner(&mut self) -> Option<Corner> {
         Some(Corner {
-            area: self.field(b"area")?,
-            site: self.field(b"site")?,
-            number: self.field(b"number")?,
-            drop: self.flag(b"drop")?,
-            x: LinkSteps(self.field(b"x")?),
-            y: LinkSteps(self.field(b"y")?),
+            area: self.field()?,
+            site: self.field()?,
+            number: self.field()?,
+            drop: self.flag()?,
+            x: LinkSteps(self.field()?),
+            y: LinkSteps(self.field()?),
         })
     }
 
-    fn message(&mut self) -> Option<Message> {
-        match take_kind(self.line, self.pass())? {
+    fn message(&mut self, kind: Kind) -> Option<Message> {
+        match kind {
             Kind::Blank => Some(Message::Blank),
             Kind::S0 => Some(Message::S0),
             Kind::S3 => Some(Message::S3(self.iff()?)),
@@ -160,8 +195,14 @@ pub struct Said {
 
 // The message that the parts from k on make.
 pub fn take(line: &[u8], k: usize) -> Option<Said> {
-    let mut walk = Walk { line, next: k };
-    let message = walk.message()?;
+    let kind = take_kind(line, k)?;
+    let mut walk = Walk {
+        line,
+        next: k.wrapping_add(1),
+        words: words_of(kind),
+        passed: 0,
+    };
+    let message = walk.message(kind)?;
     Some(Said {
         message,
         next: walk.next,
@@ -170,91 +211,89 @@ pub fn take(line: &[u8], k: usize) -> Option<Said> {
 
 // ---- told
 
-fn tell_mode<W: Write>(out: &mut W, word: &[u8], mode: Option<u16>) -> io::Result<()> {
-    show::text(out, word)?;
-    show::field(out, mode.map(i64::from))
+fn iff_fields(m: Iff) -> [Option<i64>; 6] {
+    [
+        m.mode3a.map(i64::from),
+        Some(i64::from(m.request)),
+        Some(i64::from(m.emergency)),
+        Some(i64::from(m.validation)),
+        m.mode1.map(i64::from),
+        m.mode2.map(i64::from),
+    ]
 }
 
-fn tell_iff<W: Write>(out: &mut W, m: Iff) -> io::Result<()> {
-    tell_mode(out, b" mode3a", m.mode3a)?;
-    write!(
-        out,
-        " request {} emergency {} validation {}",
-        m.request,
-        u8::from(m.emergency),
-        u8::from(m.validation)
-    )?;
-    tell_mode(out, b" mode1", m.mode1)?;
-    tell_mode(out, b" mode2", m.mode2)
+fn track_fields(m: Track) -> [Option<i64>; 4] {
+    [
+        Some(i64::from(m.number)),
+        Some(i64::from(m.quality)),
+        Some(i64::from(m.x.0)),
+        Some(i64::from(m.y.0)),
+    ]
 }
 
-fn tell_track<W: Write>(out: &mut W, m: Track) -> io::Result<()> {
-    write!(
-        out,
-        " number {} quality {} x {} y {}",
-        m.number, m.quality, m.x.0, m.y.0
-    )
+fn amplifying_fields(m: Amplifying) -> [Option<i64>; 11] {
+    [
+        Some(i64::from(m.altitude.0)),
+        Some(i64::from(m.strength)),
+        Some(i64::from(m.identification)),
+        Some(i64::from(m.special23)),
+        Some(i64::from(m.simulated)),
+        Some(i64::from(m.drop)),
+        Some(i64::from(m.traffic)),
+        Some(i64::from(m.vx)),
+        Some(i64::from(m.allocation)),
+        Some(i64::from(m.special39)),
+        Some(i64::from(m.vy)),
+    ]
 }
 
-fn tell_amplifying<W: Write>(out: &mut W, m: Amplifying) -> io::Result<()> {
-    write!(
-        out,
-        " altitude {} strength {} identification {} special23 {} simulated {} drop {}",
-        m.altitude.0,
-        m.strength,
-        m.identification,
-        m.special23,
-        u8::from(m.simulated),
-        u8::from(m.drop)
-    )?;
-    write!(
-        out,
-        " traffic {} vx {} allocation {} special39 {} vy {}",
-        m.traffic, m.vx, m.allocation, m.special39, m.vy
-    )
+fn strobe_fields(m: Strobe) -> [Option<i64>; 10] {
+    [
+        Some(i64::from(m.acquisition)),
+        Some(i64::from(m.width)),
+        Some(i64::from(m.strobe_type)),
+        Some(i64::from(m.simulated)),
+        Some(i64::from(m.azimuth)),
+        Some(i64::from(m.site)),
+        Some(i64::from(m.sensor)),
+        Some(i64::from(m.number)),
+        Some(i64::from(m.elevation)),
+        Some(i64::from(m.age)),
+    ]
 }
 
-fn tell_strobe<W: Write>(out: &mut W, m: Strobe) -> io::Result<()> {
-    write!(
-        out,
-        " acquisition {} width {} strobe_type {} simulated {} azimuth {}",
-        u8::from(m.acquisition),
-        m.width,
-        m.strobe_type,
-        u8::from(m.simulated),
-        m.azimuth
-    )?;
-    write!(
-        out,
-        " site {} sensor {} number {} elevation {} age {}",
-        m.site, m.sensor, m.number, m.elevation, m.age
-    )
+fn corner_fields(m: Corner) -> [Option<i64>; 6] {
+    [
+        Some(i64::from(m.area)),
+        Some(i64::from(m.site)),
+        Some(i64::from(m.number)),
+        Some(i64::from(m.drop)),
+        Some(i64::from(m.x.0)),
+        Some(i64::from(m.y.0)),
+    ]
 }
 
-fn tell_corner<W: Write>(out: &mut W, m: Corner) -> io::Result<()> {
-    write!(
-        out,
-        " area {} site {} number {} drop {} x {} y {}",
-        m.area,
-        m.site,
-        m.number,
-        u8::from(m.drop),
-        m.x.0,
-        m.y.0
-    )
+fn tell_fields<W: Write>(out: &mut W, words: &[&str], fields: &[Option<i64>]) -> io::Result<()> {
+    for (word, n) in words.iter().zip(fields) {
+        write!(out, " {word}")?;
+        show::field(out, *n)?;
+    }
+    Ok(())
 }
 
 pub fn tell<W: Write>(out: &mut W, m: Message) -> io::Result<()> {
-    tell_kind(out, message::kind_of(m))?;
+    let kind = message::kind_of(m);
+    let words = words_of(kind);
+    tell_kind(out, kind)?;
     match m {
         Message::Blank | Message::S0 => Ok(()),
-        Message::S3(i) => tell_iff(out, i),
-        Message::S4(t) | Message::S4Plus(t) | Message::S8(t) | Message::S8Plus(t) => tell_track(
-            out, t,
-        ),
-        Message::S5(a) => tell_amplifying(out, a),
-        Message::S6(s) => tell_strobe(out, s),
-        Message::S9(c) => tell_corner(out, c),
+        Message::S3(i) => tell_fields(out, words, &iff_fields(i)),
+        Message::S4(t) | Message::S4Plus(t) | Message::S8(t) | Message::S8Plus(t) => {
+            tell_fields(out, words, &track_fields(t))
+        }
+        Message::S5(a) => tell_fields(out, words, &amplifying_fields(a)),
+        Message::S6(s) => tell_fields(out, words, &strobe_fields(s)),
+        Message::S9(c) => tell_fields(out, words, &corner_fields(c)),
     }
 }
 
