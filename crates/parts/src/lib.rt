@@ -30,8 +30,3 @@ pub fn find(line: &[u8], k: usize, text: &[u8]) -> Option<usize> {
         .find(|(_, part)| *part == text)?;
     Some(i)
 }
-
-// Which of some words part k is, counted from 0.
-pub fn which(words: &[u8], line: &[u8], k: usize) -> Option<usize> {
-    find(words, 0, part(line, k)?)
-}

@@ -2,7 +2,7 @@
 
 ghost use Rattle.std.specs.Prelude.{◌≤◌, IfSome};
 
-use crate::{part, says};
+use crate::part;
 use itoa::Buffer;
 
 // Whether a text is a number as it would be told.
@@ -20,14 +20,6 @@ pub fn of(text: &[u8]) -> Option<i64> {
 // The number of part k, if it is one.
 pub fn read(line: &[u8], k: usize) -> Option<i64> {
     of(part(line, k)?)
-}
-
-// Whether part k is a field's number as it would be told, or says that the field is absent.
-pub fn is_told(line: &[u8], k: usize, n: Option<i64>) -> bool {
-    match n {
-        Some(n) => read(line, k) == Some(n),
-        None => says(line, k, b"absent"),
-    }
 }
 
 // The number of part k + i, if it is one of the type.

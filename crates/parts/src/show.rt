@@ -32,11 +32,6 @@ pub fn refusal<W: Write>(out: &mut W, r: Refusal) -> io::Result<()> {
     write!(out, "{r}")
 }
 
-// 64 bits in hexadecimal.
-pub fn bits<W: Write>(out: &mut W, n: u64) -> io::Result<()> {
-    write!(out, "{n:016x}")
-}
-
 // Octets in hexadecimal, in so many digits each.
 fn list<W: Write>(out: &mut W, s: &[u8], width: usize) -> io::Result<()> {
     for x in s {
