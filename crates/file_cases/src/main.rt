@@ -2,8 +2,10 @@
 
 #![tactic(auto)]
 
-use std::fs::Files;
+use std::fs::File;
+use std::io::Stdout;
 use std::{fs, io};
+use text::Failure;
 
 const LOGS: [&str; 12] = [
     "logs/none",
@@ -38,30 +40,23 @@ const CAPTURES: [&str; 15] = [
     "captures/over",
 ];
 
-// Prints a file's name and opens it.
-fn begin<R: Files + Print>(rt: &R, name: &str) -> io::Result<R::File> {
-    println!(rt; "== {name}")?;
-    fs::open(rt, name)
-}
-
-fn list(rt: &HostRuntime, name: &str) -> io::Result<()> {
-    let mut log = begin(rt, name)?;
-    text::tell(rt, listing::run(&mut log, &mut rt.stdout()));
-    Ok(())
-}
-
-fn hear(rt: &HostRuntime, name: &str) -> io::Result<()> {
-    let mut capture = begin(rt, name)?;
-    text::tell(rt, hearing::run(&mut capture, &mut rt.stdout()));
+// Prints each file's name, and what a program tells of it.
+fn tell_each<F: Fn(&mut File, &mut Stdout) -> Result<(), Failure>>(
+    rt: &HostRuntime,
+    names: &[&str],
+    run: F,
+) -> io::Result<()>
+    requires { F.IsAlwaysCallable run }
+{
+    for name in names {
+        println!(rt; "== {name}")?;
+        let mut file = fs::open(rt, name)?;
+        text::tell(rt, run(&mut file, &mut rt.stdout()));
+    }
     Ok(())
 }
 
 fn main(rt: HostRuntime) -> io::Result<()> {
-    for name in LOGS {
-        list(&rt, name)?;
-    }
-    for name in CAPTURES {
-        hear(&rt, name)?;
-    }
-    Ok(())
+    tell_each(&rt, &LOGS, |log, out| listing::run(log, out))?;
+    tell_each(&rt, &CAPTURES, |capture, out| hearing::run(capture, out))
 }

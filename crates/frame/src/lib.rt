@@ -15,34 +15,41 @@ use refusal::Refusal;
 #[derive(Clone, Copy)]
 pub struct Frame<'a> {
     pub octets: &'a [u8],
-    pub position: usize,
+    pub position: u32,
     ghost whole: { LiesWhole octets.now position },
 }
 
 impl<'a> Frame<'a> {
+    // Bit n of the frame, counted from 1.
+    fn bit(self, n: usize) -> u8
+        requires { (1 ≤ n) × (n ≤ 128) }
+        ensures { result ≡ frame_at self.entry.octets.now self.entry.position n }
+    {
+        bits::bit(self.octets, self.position as usize + n)
+    }
+
     // The start group: eight zeros.
     fn is_started(self) -> bool
         ensures { result ≡ start_good (frame_at self.entry.octets.now self.entry.position) }
     {
-        (0..8).all(|i| bits::bit(self.octets, self.position + (i + 1)) == 0)
+        (0..8).all(|i| self.bit(i + 1) == 0)
     }
 
     // The fifteen marks and the final one.
     fn is_marked(self) -> bool
         ensures { result ≡ marks_good (frame_at self.entry.octets.now self.entry.position) }
     {
-        (0..15).all(|g| bits::bit(self.octets, self.position + (8 * g + 9)) == 1)
-            && bits::bit(self.octets, self.position + 128) == 1
+        (0..15).all(|g| self.bit(8 * g + 9) == 1) && self.bit(128) == 1
     }
 
     // Bit j of the fourteen data groups and check bit j, gathered as a number of fifteen bits.
-    pub fn column(self, j: usize) -> u32
+    pub fn column(self, j: u8) -> u32
         requires { (1 ≤ j) × (j ≤ 6) }
         ensures { result ≡ num_of (λ g. frame_at self.entry.octets.now self.entry.position (8 * g + 9 + j)) 15 }
     {
         let mut gathered: u32 = 0;
         for g in 0..15 {
-            gathered |= u32::from(bits::bit(self.octets, self.position + (8 * g + 9 + j))) << g;
+            gathered |= u32::from(self.bit(8 * g + 9 + usize::from(j))) << g;
         }
         gathered
     }
@@ -51,12 +58,7 @@ impl<'a> Frame<'a> {
     fn is_checked(self) -> bool
         ensures { result ≡ checks_good (frame_at self.entry.octets.now self.entry.position) }
     {
-        for i in 0..6 {
-            if self.column(i + 1).count_ones() % 2 != 1 {
-                return false;
-            }
-        }
-        true
+        (0..6).all(|i| self.column(i + 1).count_ones() % 2 == 1)
     }
 
     // What is wrong first with the frame, if anything. The check bits are counted last.

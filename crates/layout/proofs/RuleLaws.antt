@@ -130,11 +130,12 @@ module _ {t : Checked} {word : ℕ} {ss : List Slot} {at i : ℕ} (s : Ruling t 
 pub ruling_done : {t : Checked} {word : ℕ} {ss : List Slot} {at i : ℕ} → Ruling t word ss at i → length ss ≤ i → t ≡ pick (eqb (word / 2 ^ at) 0) nothing (wrong Spare (at + 1))
 ruling_done {ss = ss} {i = i} s h = s.rest ∙ rw (drop_of_length-le ss h)
 
--- where the loop that packs stands; p is the answer
-pub record Packing (p : Result ℕ Trouble) (word : ℕ) (ss : List Slot) (ns : List ℕ) (at i : ℕ) : Type 0 where
-  pub room : at + total (drop i ss) < 64
+-- where the loop that packs stands, with these slots and numbers to come; p is the answer
+pub record Packing (p : Result ℕ Trouble) (word : ℕ) (ss : List Slot) (ns : List ℕ) (at : ℕ) : Type 0 where
+  pub room : at + total ss < 64
   pub low : word < 2 ^ at
-  pub rest : p ≡ packed_of word at (drop i ss) (drop i ns)
+  pub each : length ss ≡ length ns
+  pub rest : p ≡ packed_of word at ss ns
 
 -- a number with which nothing is wrong is not too wide
 misfit_lt : (at : ℕ) (s : Slot) (n : ℕ) → rule_misfit at s n ≡ nothing → n < 2 ^ s.0
@@ -144,34 +145,36 @@ misfit_lt at s n = go (ltb n (2 ^ s.0)) _ refl
     go true lowest q e = ltb-true _ _ q
     go false lowest q e = zero_one (cc)
 
-module _ {p : Result ℕ Trouble} {word : ℕ} {ss : List Slot} {ns : List ℕ} {at i : ℕ} (s : Packing p word ss ns at i) (ls : i < length ss) (ln : i < length ns) where
-  pub packing_room : at + (slot_at ss i).0 < 64
-  packing_room = omega (arith, s.room, total_step ss i ls)
+module _ {p : Result ℕ Trouble} {word : ℕ} {ss rest-ss : List Slot} {ns rest-ns : List ℕ} {x : Slot} {n : ℕ} {at : ℕ}
+    (s : Packing p word ss ns at) (es : ss ≡ x ∷ rest-ss) (en : ns ≡ n ∷ rest-ns) where
+  packing_step : p ≡ packed_of word at (x ∷ rest-ss) (n ∷ rest-ns)
+  packing_step = s.rest ∙ ap₂ (packed_of word at) es en
 
-  pub packing_lt : rule_misfit at (slot_at ss i) (get_or ns i 0) ≡ nothing → get_or ns i 0 < 2 ^ (slot_at ss i).0
-  packing_lt e = misfit_lt at (slot_at ss i) (get_or ns i 0) e
+  packing_room : at + x.0 + total rest-ss < 64
+  packing_room = omega (arith, s.room, ap total es)
 
-  packing_step : p ≡ packed_of word at (slot_at ss i ∷ drop (i + 1) ss) (get_or ns i 0 ∷ drop (i + 1) ns)
-  packing_step = s.rest ∙ rw (add-one i, drop-cons ss i no_slot ls, drop-cons ns i 0 ln)
+  packing_each : length rest-ss ≡ length rest-ns
+  packing_each = omega (arith, s.each, ap length es, ap length en)
 
-  pub packing_more : rule_misfit at (slot_at ss i) (get_or ns i 0) ≡ nothing
-      → Packing p (placed_of word at (get_or ns i 0)) ss ns (at + (slot_at ss i).0) (i + 1)
+  pub packing_more : rule_misfit at x n ≡ nothing → Packing p (placed_of word at n) rest-ss rest-ns (at + x.0)
   unfolding packed_of
   packing_more e =
       record {
-        room = omega (arith, s.room, total_step ss i ls);
-        low = placed_lt word at (slot_at ss i).0 (get_or ns i 0) s.low (packing_lt e);
-        rest = packing_step ∙ rw e (ap (packed_if (fitting (at + (slot_at ss i).0) (drop (i + 1) ss) (drop (i + 1) ns))) sums);
+        room = packing_room;
+        low = placed_lt word at x.0 n s.low (misfit_lt at x n e);
+        each = packing_each;
+        rest = packing_step ∙ rw e (ap (packed_if (fitting (at + x.0) rest-ss rest-ns)) sums);
       }
     where
-      sums : get_or ns i 0 * 2 ^ at + sum_at (at + (slot_at ss i).0) (drop (i + 1) ss) (drop (i + 1) ns) + word
-          ≡ sum_at (at + (slot_at ss i).0) (drop (i + 1) ss) (drop (i + 1) ns) + (get_or ns i 0 * 2 ^ at + word)
+      sums : n * 2 ^ at + sum_at (at + x.0) rest-ss rest-ns + word ≡ sum_at (at + x.0) rest-ss rest-ns + (n * 2 ^ at + word)
       sums = omega arith
 
-  pub packing_bad : {x : Trouble} → rule_misfit at (slot_at ss i) (get_or ns i 0) ≡ Err x → p ≡ Err x
+  pub packing_bad : {t : Trouble} → rule_misfit at x n ≡ Err t → p ≡ Err t
   unfolding packed_of
   packing_bad e = packing_step ∙ rw e
 
-pub packing_done : {p : Result ℕ Trouble} {word : ℕ} {ss : List Slot} {ns : List ℕ} {at i : ℕ} → Packing p word ss ns at i → length ss ≤ i → p ≡ Ok word
+-- none is to come where the slots are at their end
+pub packing_done : {p : Result ℕ Trouble} {word : ℕ} {ss : List Slot} {ns : List ℕ} {at : ℕ} → Packing p word ss ns at → length ss ≡ 0 → p ≡ Ok word
 unfolding packed_of
-packing_done {word = word} {ss = ss} {i = i} s h = s.rest ∙ rw (drop_of_length-le ss h, zero-add word)
+packing_done {word = word} {ss = []} s e = s.rest ∙ rw (zero-add word)
+packing_done {ss = x ∷ xs} s e = absurd (omega (arith, e))

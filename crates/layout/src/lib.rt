@@ -139,10 +139,9 @@ pub fn pack(word: u64, low: u32, slots: &[Slot], values: &[u64]) -> Result<u64, 
 {
     let mut packed = word;
     let mut at = low;
-    for (i, slot) in slots.iter().enumerate() {
-        let value = values[i];
-        check_value(at, *slot, value)?;
-        packed = bits::place(packed, at, slot.0, value);
+    for (slot, value) in slots.iter().zip(values) {
+        check_value(at, *slot, *value)?;
+        packed = bits::place(packed, at, slot.0, *value);
         at += slot.0;
     }
     Ok(packed)

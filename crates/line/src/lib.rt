@@ -16,13 +16,11 @@ pub struct Window {
     pub newer: u64,
 }
 
-impl Window {
-    // The sixteen octets.
-    fn image(self) -> [u8; 16]
-        ensures { result ≡ window_image self }
-    {
-        ((u128::from(self.older) << 64) | u128::from(self.newer)).to_be_bytes()
-    }
+// The sixteen octets of a window.
+pub fn image(window: Window) -> [u8; 16]
+    ensures { result ≡ window_image window }
+{
+    ((u128::from(window.older) << 64) | u128::from(window.newer)).to_be_bytes()
 }
 
 // The window with so many bits more, those of a number, the most significant first; as many of the oldest go.
@@ -71,7 +69,7 @@ pub fn hand_over(window: Window) -> Handed
     if window.older >> 55 != 1 {
         return hold_back();
     }
-    let image = window.image();
+    let image = image(window);
     match frame::verdict(&image) {
         Ok(()) => Handed { frame: true, image },
         Err(_) => hold_back(),

@@ -3,8 +3,8 @@
 
 #![tactic(auto)]
 
-use line::{Heard, Receiver, Window};
-use octets::{HeardOctet, OctetReceiver};
+use line::{Receiver, Window};
+use octets::OctetReceiver;
 use parts::octets::gather;
 use parts::{numbers, show};
 use refusal::{Refusal, refusal_in};
@@ -16,88 +16,84 @@ use std::io::Write;
 // The octets where no frame is handed over.
 const NONE: [u8; 16] = [0; 16];
 
-// Whether an answer says nothing: no refusal, no frame, and octets of zero.
-fn is_silent(heard: Heard) -> bool {
-    heard.refusal == Refusal::of(refusal::SUCCESS) && !heard.frame && heard.image == NONE
-}
-
-// at I N P B F OCTETS: the level's number from 1, the refusal, whether there is a frame, and the octets.
-fn tell_heard<W: Write>(out: &mut W, i: usize, heard: Heard) -> io::Result<()> {
-    write!(out, "at {i} {} {}", heard.refusal, u8::from(heard.frame))?;
-    show::octets(out, &heard.image)?;
-    show::text(out, b" ")
-}
-
 // The sixteen octets of a window, which no public call gives.
 fn image_of(window: Window) -> [u8; 16] {
     ((u128::from(window.older) << 64) | u128::from(window.newer)).to_be_bytes()
 }
 
-// Feeds a run of levels, and tells each answer that is not silent.
-fn feed_all<W: Write>(out: &mut W, given: Receiver, levels: &[u8]) -> io::Result<Receiver> {
-    let mut receiver = given;
-    for (i, level) in levels.iter().enumerate() {
-        let heard = receiver.step(*level);
-        if !is_silent(heard) {
-            tell_heard(out, i + 1, heard)?;
+// A receiver that is fed octets, each a level or eight bits.
+trait Fed: Copy {
+    // Takes octet i of the run, from 1, tells the answer if it says anything, and gives the receiver to go on with.
+    fn tell_step<W: Write>(self, out: &mut W, i: usize, octet: u8) -> io::Result<Self>;
+
+    fn tell_state<W: Write>(self, out: &mut W) -> io::Result<()>;
+}
+
+impl Fed for Receiver {
+    // at I N P B F OCTETS: the level's number, the refusal, whether there is a frame, and the octets.
+    fn tell_step<W: Write>(self, out: &mut W, i: usize, level: u8) -> io::Result<Receiver> {
+        let heard = self.step(level);
+        if heard.refusal != Refusal::of(refusal::SUCCESS) || heard.frame || heard.image != NONE {
+            write!(out, "at {i} {} {}", heard.refusal, u8::from(heard.frame))?;
+            show::octets(out, &heard.image)?;
+            show::text(out, b" ")?;
         }
-        receiver = heard.receiver;
+        Ok(heard.receiver)
+    }
+
+    // state STARTED LAST OCTETS
+    fn tell_state<W: Write>(self, out: &mut W) -> io::Result<()> {
+        write!(out, "state {} {}", u8::from(self.started), self.last)?;
+        show::octets(out, &image_of(self.window))
+    }
+}
+
+impl Fed for OctetReceiver {
+    // at I F J OCTETS: the octet's number, whether there is a frame, the bit at which it ended, and its octets.
+    fn tell_step<W: Write>(self, out: &mut W, i: usize, octet: u8) -> io::Result<OctetReceiver> {
+        let heard = self.step(octet);
+        if heard.frame || heard.bit != 0 || heard.image != NONE {
+            write!(out, "at {i} {} {}", u8::from(heard.frame), heard.bit)?;
+            show::octets(out, &heard.image)?;
+            show::text(out, b" ")?;
+        }
+        Ok(heard.receiver)
+    }
+
+    // state OCTETS
+    fn tell_state<W: Write>(self, out: &mut W) -> io::Result<()> {
+        show::text(out, b"state")?;
+        show::octets(out, &image_of(self.window))
+    }
+}
+
+// Feeds a run of octets.
+fn feed_all<W: Write, R: Fed>(out: &mut W, given: R, run: &[u8]) -> io::Result<R> {
+    let mut receiver = given;
+    for (i, octet) in run.iter().enumerate() {
+        receiver = receiver.tell_step(out, i + 1, *octet)?;
     }
     Ok(receiver)
 }
 
-// Tells the state as well: state STARTED LAST OCTETS.
-fn feed<W: Write>(out: &mut W, given: Receiver, levels: &[u8]) -> io::Result<()> {
-    let receiver = feed_all(out, given, levels)?;
-    write!(
-        out,
-        "state {} {}",
-        u8::from(receiver.started),
-        receiver.last
-    )?;
-    show::octets(out, &image_of(receiver.window))
-}
-
-// Whether an answer to an octet says nothing: no frame, bit 0, and octets of zero.
-fn is_silent_octet(heard: HeardOctet) -> bool {
-    !heard.frame && heard.bit == 0 && heard.image == NONE
-}
-
-// at I F J OCTETS: the octet's number from 1, whether there is a frame, the bit at which it ended, and its octets.
-fn tell_octet<W: Write>(out: &mut W, i: usize, heard: HeardOctet) -> io::Result<()> {
-    write!(out, "at {i} {} {}", u8::from(heard.frame), heard.bit)?;
-    show::octets(out, &heard.image)?;
-    show::text(out, b" ")
-}
-
-// Feeds a run of octets: each answer that is not silent, then state OCTETS.
-fn feed_octets<W: Write>(out: &mut W, given: OctetReceiver, run: &[u8]) -> io::Result<()> {
-    let mut receiver = given;
-    for (i, octet) in run.iter().enumerate() {
-        let heard = receiver.step(*octet);
-        if !is_silent_octet(heard) {
-            tell_octet(out, i + 1, heard)?;
-        }
-        receiver = heard.receiver;
+// Feeds the receiver and the run that a line gives, if it gives them, and tells the state as well.
+fn feed<W: Write, R: Fed>(out: &mut W, given: Option<(R, &[u8])>) -> io::Result<()> {
+    match given {
+        Some((receiver, run)) => feed_all(out, receiver, run)?.tell_state(out),
+        None => show::refuse(out),
     }
-    show::text(out, b"state")?;
-    show::octets(out, &image_of(receiver.window))
 }
 
 // hear LEVELS
 pub fn hear<W: Write>(out: &mut W, line: &[u8], space: &mut [u8]) -> io::Result<()> {
-    match gather(line, 1, space) {
-        Some(levels) => feed(out, Receiver::fresh(), levels),
-        None => show::refuse(out),
-    }
+    let given = gather(line, 1, space).map(|levels| (Receiver::fresh(), &*levels));
+    feed(out, given)
 }
 
 // hear_octets OCTETS
 pub fn hear_octets<W: Write>(out: &mut W, line: &[u8], space: &mut [u8]) -> io::Result<()> {
-    match gather(line, 1, space) {
-        Some(run) => feed_octets(out, OctetReceiver::fresh(), run),
-        None => show::refuse(out),
-    }
+    let given = gather(line, 1, space).map(|run| (OctetReceiver::fresh(), &*run));
+    feed(out, given)
 }
 
 // The window that the sixteen octets from part k on are, and the octets behind.
@@ -110,29 +106,28 @@ fn window<'a>(line: &[u8], k: usize, space: &'a mut [u8]) -> Option<(Window, &'a
     Some((window, body.get(16..)?))
 }
 
-// resume STARTED LAST WINDOW LEVELS
-pub fn resume<W: Write>(out: &mut W, line: &[u8], space: &mut [u8]) -> io::Result<()> {
-    let (Some(started), Some(last), Some((window, levels))) = (
-        numbers::bool_at(line, 1, 0),
-        numbers::at(line, 2, 0),
-        window(line, 3, space),
-    ) else {
-        return show::refuse(out);
-    };
+// The receiver that STARTED LAST WINDOW say, and the levels behind.
+fn resumed<'a>(line: &[u8], space: &'a mut [u8]) -> Option<(Receiver, &'a [u8])> {
+    let started = numbers::bool_at(line, 1, 0)?;
+    let last = numbers::at(line, 2, 0)?;
+    let (window, levels) = window(line, 3, space)?;
     let receiver = Receiver {
         started,
         last,
         window,
     };
-    feed(out, receiver, levels)
+    Some((receiver, levels))
+}
+
+// resume STARTED LAST WINDOW LEVELS
+pub fn resume<W: Write>(out: &mut W, line: &[u8], space: &mut [u8]) -> io::Result<()> {
+    feed(out, resumed(line, space))
 }
 
 // resume_octets WINDOW OCTETS
 pub fn resume_octets<W: Write>(out: &mut W, line: &[u8], space: &mut [u8]) -> io::Result<()> {
-    match window(line, 1, space) {
-        Some((window, run)) => feed_octets(out, OctetReceiver { window }, run),
-        None => show::refuse(out),
-    }
+    let given = window(line, 1, space).map(|(window, run)| (OctetReceiver { window }, run));
+    feed(out, given)
 }
 
 // ---- the sender

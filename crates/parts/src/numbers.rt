@@ -1,18 +1,23 @@
 // Numbers of a line: decimal, 64 bits each.
 
-ghost use Rattle.std.specs.Prelude.{◌≤◌, IfSome};
+ghost use Rattle.std.specs.Fmt.{signed_decimal};
+ghost use Rattle.std.specs.Prelude.{◌≡◌, ◌-◌, ◌≤◌, IfSome, IsTrue, length};
 
 use crate::part;
 use itoa::Buffer;
 
 // Whether a text is a number as it would be told.
-fn says_number(text: &[u8], n: i64) -> bool {
+fn says_number(text: &[u8], n: i64) -> bool
+    ensures { IsTrue result → text.now ≡ signed_decimal n }
+{
     let mut digits = Buffer::new();
     digits.format(n).as_bytes() == text
 }
 
 // The number that a text is, as it would be told: with no plus, and no zero in front.
-pub fn of(text: &[u8]) -> Option<i64> {
+pub fn of(text: &[u8]) -> Option<i64>
+    ensures { IfSome result (λ n. text.now ≡ signed_decimal n) }
+{
     let n: i64 = str::from_utf8(text).ok()?.parse().ok()?;
     says_number(text, n).then_some(n)
 }
@@ -47,7 +52,9 @@ pub fn up_to(line: &[u8], k: usize, most: usize) -> Option<usize>
 }
 
 // The numbers of the parts from `from` up to `to`, put into the space.
-pub fn list<'a>(line: &[u8], from: usize, to: usize, space: &'a mut [i32]) -> Option<&'a [i32]> {
+pub fn list<'a>(line: &[u8], from: usize, to: usize, space: &'a mut [i32]) -> Option<&'a [i32]>
+    ensures { IfSome result (λ numbers. length numbers.now ≡ to - from) }
+{
     let numbers = space.get_mut(..to.checked_sub(from)?)?;
     for (i, n) in numbers.iter_mut().enumerate() {
         *n = at(line, from, i)?;

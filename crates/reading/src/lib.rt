@@ -134,8 +134,6 @@ fn read_message(k: Kind, word: u64) -> Message
 pub fn read_content(place: u8, k: Kind, word: u64) -> Result<Message, Refusal>
     ensures { result ≡ content_of place k word }
 {
-    match tables::find_trouble(k, word) {
-        Ok(()) => Ok(read_message(k, word)),
-        Err(trouble) => Err(refusal::refuse(place, trouble)),
-    }
+    tables::find_trouble(k, word).map_err(|trouble| refusal::refuse(place, trouble))?;
+    Ok(read_message(k, word))
 }

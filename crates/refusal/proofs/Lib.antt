@@ -1,3 +1,4 @@
 pub mod CheckLaws
+pub mod Mapped
 pub mod One
 pub mod OkOr

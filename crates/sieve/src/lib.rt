@@ -2,7 +2,7 @@
 
 #![tactic(auto)]
 
-ghost use Rattle.std.specs.Prelude.{◌≡◌, ◌+◌, ◌*◌, ◌≤◌, ◌<◌, length};
+ghost use Rattle.std.specs.Prelude.{◌≡◌, ◌+◌, ◌*◌, ◌≤◌, ◌<◌, IfSome, length};
 ghost use Rattle.frame.specs.Frame.{LiesWhole};
 ghost use Rattle.sieve.specs.Capture.{good_at};
 ghost use Rattle.sieve.specs.Sieve.{PassedOver, Seen};
@@ -25,20 +25,20 @@ fn pass_idle(capture: &[u8], i: usize) -> usize
     }
 }
 
-// The octet that can be gone on from, or i. The fifteen marks of a frame that begins in octet i stand in the fifteen octets
-// after it, all in one place of theirs: where the AND of the last eight becomes zero, no frame begins up to there.
-fn pass_unmarked(capture: &[u8], i: usize) -> usize
+// An octet further on that can be gone on from, if this finds one. The fifteen marks of a frame that begins in octet i stand in the
+// fifteen octets after it, all in one place of theirs: where the AND of the last eight becomes zero, no frame begins up to there.
+fn pass_unmarked(capture: &[u8], i: usize) -> Option<usize>
     requires { i + 16 ≤ length capture.now }
-    ensures { PassedOver capture.now i result }
+    ensures { IfSome result (λ next. (i < next) × PassedOver capture.now i next) }
 {
     let mut ones: u8 = 255;
     for from in (8..16).rev() {
         ones &= capture[i + from];
         if ones == 0 {
-            return i + from;
+            return Some(i + from);
         }
     }
-    i
+    None
 }
 
 // Whether a good frame lies whole at position q.
@@ -51,7 +51,7 @@ fn is_frame(capture: &[u8], q: usize) -> bool
     }
     let frame = Frame {
         octets: capture,
-        position: q,
+        position: q as u32,
     };
     frame.verdict().is_ok()
 }
@@ -104,9 +104,8 @@ pub fn look(capture: &[u8], p: usize) -> Seen
     if i < idle {
         return ControlFlow::Continue(8 * idle);
     }
-    let unmarked = pass_unmarked(capture, i);
-    if i < unmarked {
-        return ControlFlow::Continue(8 * unmarked);
+    if let Some(next) = pass_unmarked(capture, i) {
+        return ControlFlow::Continue(8 * next);
     }
     look_each(capture, p, (8 * i + 64).min(8 * capture.len() - 127))
 }

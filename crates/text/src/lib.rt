@@ -10,6 +10,7 @@ ghost use Rattle.text.specs.Wrote.{Wrote};
 ghost use Rattle.text.specs.declared.Failure.TheVariants.{Unread};
 
 use itoa::Buffer;
+use std::error::Error;
 use std::fmt::{self, Display, Formatter};
 use std::io::{Read, Write};
 
@@ -50,7 +51,7 @@ pub fn put_row(out: &mut [u8], at: usize, numbers: &[u64]) -> usize
 }
 
 // A read that failed, after so many octets.
-#[derive(Clone, Copy)]
+#[derive(Clone, Copy, Debug)]
 pub struct FailedRead {
     pub count: usize,
 }
@@ -73,7 +74,7 @@ pub fn read_all<R: Read>(from: &mut R, space: &mut [u8]) -> Result<usize, Failed
 }
 
 // What went wrong with a program's input or output.
-#[derive(Clone, Copy)]
+#[derive(Clone, Copy, Debug, PartialEq, Eq)]
 pub enum Failure {
     Unread,
     Unwritten,
@@ -88,11 +89,13 @@ impl Display for Failure {
     }
 }
 
+impl Error for Failure {}
+
 impl From<FailedRead> for Failure {
     ghost from_gives = { λ _ failure. failure ≡ Unread };
 
     fn from(_: FailedRead) -> Failure {
-        Failure::Unread
+        Self::Unread
     }
 }
 

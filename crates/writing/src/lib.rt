@@ -2,7 +2,7 @@
 
 #![tactic(auto)]
 
-ghost use Rattle.std.specs.Prelude.{◌≡◌, length};
+ghost use Rattle.std.specs.Prelude.{◌≡◌, ◌≤◌, length};
 ghost use Rattle.bits.specs.Numbers.{bit};
 ghost use Rattle.layout.specs.Layout.{write_as, signed};
 ghost use Rattle.layout.specs.Rules.{raw_of, slots_of, packed_if, packed_of};
@@ -14,18 +14,13 @@ use kind::Kind;
 use layout::Trouble;
 use message::{Amplifying, Corner, Iff, Message, Strobe, Track};
 use refusal::Refusal;
-use units::LinkSteps;
 
-fn steps_bits(v: LinkSteps) -> u64
-    ensures { result ≡ write_as (signed 12) v.0 }
+// The bits of a signed field of so many bits beside its sign.
+fn signed<const K: u32>(z: i16) -> u64
+    requires { K ≤ 15 }
+    ensures { result ≡ write_as (signed K) z }
 {
-    bits::signed_bits(v.0, 4096)
-}
-
-fn velocity_bits(v: i16) -> u64
-    ensures { result ≡ write_as (signed 7) v }
-{
-    bits::signed_bits(v, 128)
+    bits::signed_bits(z, 1 << K)
 }
 
 fn presence(m: Option<u16>) -> u64
@@ -66,8 +61,8 @@ fn write_track(t: Track) -> [u64; 4]
     [
         u64::from(t.number),
         u64::from(t.quality),
-        steps_bits(t.x),
-        steps_bits(t.y),
+        signed::<12>(t.x.0),
+        signed::<12>(t.y.0),
     ]
 }
 
@@ -82,10 +77,10 @@ fn write_amplifying(a: Amplifying) -> [u64; 11]
         u64::from(a.simulated),
         u64::from(a.drop),
         u64::from(a.traffic),
-        velocity_bits(a.vx),
+        signed::<7>(a.vx),
         u64::from(a.allocation),
         u64::from(a.special39),
-        velocity_bits(a.vy),
+        signed::<7>(a.vy),
     ]
 }
 
@@ -116,8 +111,8 @@ fn write_corner(c: Corner) -> [u64; 8]
         u64::from(c.number),
         u64::from(c.drop),
         0,
-        steps_bits(c.x),
-        steps_bits(c.y),
+        signed::<12>(c.x.0),
+        signed::<12>(c.y.0),
     ]
 }
 
@@ -151,8 +146,5 @@ fn pack(m: Message) -> Result<u64, Trouble>
 pub fn encode(place: u8, m: Message) -> Result<u64, Refusal>
     ensures { result ≡ encoded_of place m }
 {
-    match pack(m) {
-        Ok(word) => Ok(word),
-        Err(trouble) => Err(refusal::refuse(place, trouble)),
-    }
+    pack(m).map_err(|trouble| refusal::refuse(place, trouble))
 }

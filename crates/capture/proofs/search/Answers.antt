@@ -12,22 +12,11 @@ returns-then-capture-gt65536 c = refused _ _ c.of.ensures (λ q. omega arith) (t
 pub returns-then-total-start : goal.returns-then-total-start
 returns-then-total-start c = refused _ _ c.of-then-total-start.ensures (λ q. omega arith) (past_end _ _ c.if-capture-gt65536.false c.if-total-start.true)
 
-pub loop-p-init : goal.loop-p-init
-loop-p-init c = (search rules, search rules, λ q a b. absurd (omega arith))
-
 pub returns-in-Break : goal.returns-in-Break
 returns-in-Break c =
     let looked = c.in-Break.ensures in
     one_there _ _ c.if-capture-gt65536.false c.if-total-start.false _
     (omega (arith, looked.from), looked.found refl, none_join _ _ _ _ _ c.loop-p.invariant.2 (search rules) looked.none)
-
-pub loop-p-smaller : goal.loop-p-smaller
-loop-p-smaller c = let looked = c.in-Continue.ensures in omega (arith, looked.further refl, looked.to)
-
-pub loop-p-preserved : goal.loop-p-preserved
-loop-p-preserved c =
-    let looked = c.in-Continue.ensures in
-    (omega (arith, looked.from), looked.to, none_join _ _ _ _ _ c.loop-p.invariant.2 (search rules) looked.none)
 
 pub returns : goal.returns
 returns c =

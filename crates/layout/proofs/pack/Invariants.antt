@@ -3,5 +3,5 @@ use Rattle.layout.specs.Rules.{packed_of}
 use Rattle.layout.proofs.RuleLaws.{Packing}
 use Rattle.layout.proofs.pack.Given as goal
 
-abbrev pub invariant-loop-i : goal.invariant-loop-i
-invariant-loop-i l = Packing (packed_of l.word l.low l.slots l.values) l.packed l.slots l.values l.at l.i
+abbrev pub invariant-loop-slot : goal.invariant-loop-slot
+invariant-loop-slot l = Packing (packed_of l.word l.low l.slots l.values) l.packed l.slot-iterator.a.rest.now l.slot-iterator.b.rest.now l.at

@@ -1,12 +1,6 @@
 -- `reading::read_message` meets its contract. Assumes nothing.
 use Rattle.reading.proofs.read_message.Goals as goal
 
-pub returns-in-Blank : goal.returns-in-Blank
-returns-in-Blank c = rw c.in-Blank.is
-
-pub returns-in-S0 : goal.returns-in-S0
-returns-in-S0 c = rw c.in-S0.is
-
 pub returns-in-S3 : goal.returns-in-S3
 returns-in-S3 c = rw (c.in-S3.is, c.read_iff.ensures)
 

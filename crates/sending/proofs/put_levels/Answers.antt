@@ -3,11 +3,8 @@ use mathlib.Core.Path.{sym, ap, ◌∙◌}
 use borrow.Author.Rules.{rules}
 use Rattle.line.specs.Sending.{next}
 use Rattle.bits.proofs.NumberLaws.{get_or-tab, length_tab}
-use Rattle.line.proofs.SendingLaws.{sending_start, sending_more, sending_done}
+use Rattle.line.proofs.SendingLaws.{sending_more, sending_done}
 use Rattle.sending.proofs.put_levels.Goals as goal
-
-pub loop-i-init : goal.loop-i-init
-loop-i-init c = sending_start _ _ _ c.requires.1 c.requires.2
 
 pub loop-i-preserved : goal.loop-i-preserved
 loop-i-preserved c =

@@ -6,7 +6,7 @@ use native.Mathlib.Nat.{mod-lt}
 use native.Mathlib.Omega.{arith}
 use borrow.Author.Rules.{rules}
 use lib.Bits.{bit_or}
-use lib.Count.{ones, ones-le}
+use lib.Count.{ones}
 use lib.Dec.{lit<}
 use Rattle.bits.specs.Numbers.{num_of}
 use Rattle.bits.specs.Tests.{every}
@@ -27,11 +27,6 @@ framed = rule_at (λ x. bit_or 129 ((x * 2 ^ 1) % 2 ^ 8)) (λ x. 129 + x * 2) 64
 
 pub loop-i-init : goal.loop-i-init
 loop-i-init c = sym (num_none _)
-
-pub overflow_add-checks : goal.overflow_add-checks
-overflow_add-checks c =
-    let h : c.column.result < 2 ^ 32 = search rules in
-    omega (arith, ones-le 32 c.column.result h)
 
 pub loop-i-preserved : goal.loop-i-preserved
 loop-i-preserved c =

@@ -1,25 +1,11 @@
 -- `words::put_image` meets its contract. Assumes nothing.
 use mathlib.Core.List.{List}
-use mathlib.Core.Path.{◌≡◌, sym, ap, ap₂, ◌∙◌}
-use Prim.Native.Nat.{ℕ, ◌<◌}
-use native.Mathlib.Omega.{arith}
-use lib.ListN.{length, set, length-set}
+use mathlib.Core.Path.{◌≡◌, ap, ap₂, ◌∙◌}
+use Prim.Native.Nat.{ℕ}
+use lib.ListN.{set}
 use Rattle.words.specs.Packing.{message_stored, check_octet}
 use Rattle.words.proofs.PackingLaws.{stored, image_stored}
 use Rattle.words.proofs.put_image.Goals as goal
-
--- sixteen octets have octet 15, also after a store
-last_there : (s : List ℕ) (i x : ℕ) → length s ≡ 16 → 15 < length (set s i x)
-last_there s i x e = omega (arith, length-set s i x, e)
-
-pub bounds-image-15-2 : goal.bounds-image-15-2
-bounds-image-15-2 c = let d = c.put_message-2 in last_there d.new.image _ _ d.ensures.1
-
-pub shape_of-image : goal.shape_of-image
-shape_of-image c =
-    let d = c.put_message-2 in
-    length-set (set d.new.image _ _) 15 c.check_octet-check.result ∙ length-set d.new.image _ _ ∙ d.ensures.1
-    ∙ sym c.requires
 
 pub returns : goal.returns
 returns c =

@@ -1,10 +1,8 @@
 -- `words::put_message` meets its contract. The loop's invariant: the groups passed are stored. Assumes nothing.
 use mathlib.Core.Path.{◌≡◌, sym, ap, ◌∙◌}
 use Prim.Native.Nat.{◌+◌, ◌-◌}
-use native.Mathlib.Nat.{mod-lt}
 use native.Mathlib.Omega.{arith}
 use borrow.Author.Rules.{rules}
-use lib.Dec.{lit<}
 use lib.ListN.{set}
 use Rattle.bits.specs.Numbers.{written}
 use Rattle.words.specs.Packing.{data_group, data_octet}
@@ -14,9 +12,6 @@ use Rattle.words.proofs.put_message.Goals as goal
 
 pub loop-group-init : goal.loop-group-init
 loop-group-init c = (search rules, sym (written_none _ _ _))
-
-pub bounds-mirrored-seven : goal.bounds-mirrored-seven
-bounds-mirrored-seven c = rw c.field-seven.ensures (mod-lt _ (lit< tt))
 
 pub loop-group-preserved : goal.loop-group-preserved
 loop-group-preserved c =

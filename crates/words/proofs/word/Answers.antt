@@ -3,7 +3,6 @@ use mathlib.Core.Path.{◌≡◌, sym, ap, ap₂, ◌∙◌}
 use Prim.Native.Nat.{ℕ, ◌+◌, ◌-◌, ◌*◌, ◌^◌}
 use native.Mathlib.Omega.{arith}
 use borrow.Author.Rules.{rules}
-use lib.Bits.{mask_lt}
 use lib.ListN.{get_or}
 use Rattle.bits.specs.Numbers.{num_of}
 use Rattle.bits.specs.Octets.{bit_at}
@@ -15,11 +14,6 @@ use Rattle.words.proofs.word.Goals as goal
 
 pub loop-group-init : goal.loop-group-init
 loop-group-init c = sym (num_none _)
-
-pub bounds-mirrored-from : goal.bounds-mirrored-from
-bounds-mirrored-from c =
-    let octet = get_or c.args.image.now c.data_group.result 0 in
-    rw c.from.ensures (mask_lt octet 7)
 
 pub place-gathered-requires : goal.place-gathered-requires
 place-gathered-requires c =
