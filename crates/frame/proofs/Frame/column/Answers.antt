@@ -1,5 +1,5 @@
 -- `frame::Frame::column` meets its contract. The loop's invariant: the number holds the bits passed. Assumes nothing.
-use mathlib.Core.Path.{sym}
+use mathlib.Core.Path.{sym, ap, ◌∙◌}
 use Prim.Native.Nat.{◌+◌, ◌*◌}
 use borrow.Author.Rules.{rules}
 use Rattle.frame.specs.Frame.{frame_at}
@@ -14,5 +14,6 @@ pub loop-g-preserved : goal.loop-g-preserved
 loop-g-preserved c =
     let a = c.args in
     let s = a.self.octets.now in
-    num_turn (λ h. frame_at s a.self.position (8 * h + 9 + a.j)) 32 c.loop-g.g _ c.from-2.result (search rules) (λ h. bit_lt s _)
-    c.loop-g.invariant (search rules)
+    num_turn (λ h. frame_at s a.self.position (8 * h + 9 + a.j)) 32 c.loop-g.g _ c.from-in-loop-g.result (search rules) (λ h. bit_lt s _)
+    c.loop-g.invariant
+    (c.from-in-loop-g.ensures ∙ c.bit.ensures ∙ ap (λ k. frame_at s a.self.position (8 * c.loop-g.g + 9 + k)) c.from.ensures)
