@@ -1,3 +1,4 @@
+pub mod AddsLaws
 pub mod CountLaws
 pub mod ReadLaws
 pub mod WroteLaws

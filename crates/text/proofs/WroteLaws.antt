@@ -1,12 +1,11 @@
 -- Laws of texts that are put into a buffer. Assumes nothing.
 use mathlib.Core.Path.{◌≡◌, refl, sym, ap, subst, ◌∙◌}
-use mathlib.Core.List.{List, [], ◌∷◌, ◌++◌, append_assoc, append-nil}
-use Prim.Native.Nat.{ℕ, ◌+◌, ◌-◌, ◌≤◌, ◌<◌}
+use mathlib.Core.List.{List, [], ◌++◌, append_assoc, append-nil}
+use Prim.Native.Nat.{ℕ, ◌+◌, ◌-◌, ◌≤◌}
 use native.Mathlib.Nat.{add-zero}
-use native.Mathlib.Numerals.{add-one}
 use native.Mathlib.Omega.{arith}
-use lib.ListN.{length, take, drop, set, length-append, length-drop, drop_of_length-le}
-use lib.Seq.{take_all, take_at, drop_at, paste-zero, drop-drop, take-length, set_split, length-take-le, append_snoc}
+use lib.ListN.{length, take, drop, length-append, length-drop, drop_of_length-le}
+use lib.Seq.{take_all, take_at, drop_at, paste-zero, drop-drop, take-length, length-take-le}
 use borrow.Rule.Slice.PartMut.{put_mid}
 use Rattle.std.proofs.lemmas.Slice.{put_mid-paste}
 use Rattle.std.proofs.lemmas.List.Edits.{paste_all}
@@ -41,16 +40,6 @@ put_put {d} {xs} {ys} {e} {f} {at} {r} {s} h w v =
       text = v.text ∙ ap (λ (l : List ℕ). l ++ ys ++ drop (r + length ys) e) tk
           ∙ ap (λ (l : List ℕ). take at d ++ xs ++ ys ++ l) rest
           ∙ ap (λ (l : List ℕ). l ++ drop (at + length (xs ++ ys)) d) (append_assoc (take at d) xs ys);
-    }
-
--- a store is a text of one octet
-pub put_one : (d : List ℕ) (at b : ℕ) → at < length d → Wrote d at (b ∷ []) (set d at b) (at + 1)
-unfolding pasted
-put_one d at b h =
-    record {
-      next = refl;
-      text = set_split d at b h ∙ ap (λ (k : ℕ). take at d ++ b ∷ drop k d) (sym (add-one at))
-          ∙ sym (append_snoc (take at d) b (drop (at + 1) d));
     }
 
 -- what a copy of xs into the part from at on leaves

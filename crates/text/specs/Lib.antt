@@ -1,3 +1,4 @@
+pub mod Adds
 pub mod Counts
 pub mod Digits
 pub mod Text

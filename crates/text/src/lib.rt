@@ -1,4 +1,4 @@
-// Texts that are put into a lent buffer, and what the programs share: reading their input and writing their output.
+// Texts that are put on a sheet, and what the programs share: reading their input and writing their output.
 
 #![tactic(auto)]
 
@@ -6,7 +6,6 @@ ghost use Rattle.std.specs.Prelude.{◌≡◌, ◌≢◌, ◌+◌, ◌*◌, ◌�
 ghost use Rattle.std.specs.Io.KnownBytes.{Appends, Consumes, IsAtEnd};
 ghost use Rattle.text.specs.Counts.{IsPrefixLen, count_of};
 ghost use Rattle.text.specs.Text.{dec_then, row};
-ghost use Rattle.text.specs.Wrote.{Wrote};
 ghost use Rattle.text.specs.declared.Failure.TheVariants.{Unread};
 
 use itoa::Buffer;
@@ -14,40 +13,50 @@ use std::error::Error;
 use std::fmt::{self, Display, Formatter};
 use std::io::{Read, Write};
 
-// Puts text into out from index at on, and answers the index after it.
-pub fn put(out: &mut [u8], at: usize, text: &[u8]) -> usize
-    requires { at + length text.now ≤ length out.old }
-    ensures { Wrote out.old at text.now out.new result }
-{
-    let next = at + text.len();
-    out[at..next].copy_from_slice(text);
-    next
+// A lent buffer, and how many octets at its front are written.
+#[derive(Drop)]
+pub struct Sheet<'a> {
+    pub out: &'a mut [u8],
+    pub written: usize,
+    ghost within: { written ≤ length out.now },
 }
 
-// Puts n's decimal digits and the octet then.
-pub fn put_number(out: &mut [u8], at: usize, n: u64, then: u8) -> usize
-    requires { at + 21 ≤ length out.old }
-    ensures wrote { Wrote out.old at (dec_then n then) out.new result }
-    ensures upper_bound { result ≤ at + 21 }
-{
-    let mut digits = Buffer::new();
-    let next = put(out, at, digits.format(n).as_bytes());
-    out[next] = then;
-    next + 1
-}
+impl<'a> Sheet<'a> {
+    ghost use Rattle.text.specs.Adds.{Adds};
 
-// Puts a line of numbers: a space between two, a line end after the last.
-pub fn put_row(out: &mut [u8], at: usize, numbers: &[u64]) -> usize
-    requires { (at + 21 * length numbers.now ≤ length out.old) × (0 < length numbers.now) }
-    ensures wrote { Wrote out.old at (row numbers.now) out.new result }
-    ensures upper_bound { result ≤ at + 21 * length numbers.now }
-{
-    let last = numbers.len() - 1;
-    let mut next = at;
-    for number in &numbers[..last] {
-        next = put_number(out, next, *number, b' ');
+    // Puts text behind what is written.
+    pub fn put(&mut self, text: &[u8])
+        requires { self.old.written + length text.now ≤ length self.old.out.now }
+        ensures { Adds self.old text.now self.new }
+    {
+        let next = self.written + text.len();
+        self.out[self.written..next].copy_from_slice(text);
+        self.written = next;
     }
-    put_number(out, next, numbers[last], b'\n')
+
+    // Puts n's decimal digits and the octet then.
+    pub fn put_number(&mut self, n: u64, then: u8)
+        requires { self.old.written + 21 ≤ length self.old.out.now }
+        ensures added { Adds self.old (dec_then n then) self.new }
+        ensures upper_bound { self.new.written ≤ self.old.written + 21 }
+    {
+        let mut digits = Buffer::new();
+        self.put(digits.format(n).as_bytes());
+        self.put(&[then]);
+    }
+
+    // Puts a line of numbers: a space between two, a line end after the last.
+    pub fn put_row(&mut self, numbers: &[u64])
+        requires { (self.old.written + 21 * length numbers.now ≤ length self.old.out.now) × (0 < length numbers.now) }
+        ensures added { Adds self.old (row numbers.now) self.new }
+        ensures upper_bound { self.new.written ≤ self.old.written + 21 * length numbers.now }
+    {
+        let last = numbers.len() - 1;
+        for number in &numbers[..last] {
+            self.put_number(*number, b' ');
+        }
+        self.put_number(numbers[last], b'\n');
+    }
 }
 
 // A read that failed, after so many octets.
