@@ -10,5 +10,5 @@ returns-in-Ok c =
     let x = c.label in
     let y = c.label-in-Ok in
     let same : a.n ∷ 0 ∷ x.result ∷ y.result ∷ [] ≡ numbers_of a.n a.opened = rw (c.in-Ok.is, x.ensures.0, y.ensures.0) in
-    let line = image_put a.out.now a.at a.n a.opened same (omega arith) (omega arith) c.put_row.ensures.wrote in
-    record { wrote = line.0; upper_bound = line.1 }
+    let line = image_put a.n a.opened same (omega arith) (omega arith) c.put_row.ensures.added in
+    record { added = line.0; upper_bound = line.1 }

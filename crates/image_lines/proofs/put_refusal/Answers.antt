@@ -11,14 +11,14 @@ returns-then-has_bit c =
     let with_bit : has_bit a.r.number ≡ true = sym c.has_bit.ensures ∙ c.if-has_bit.true in
     let same : a.n ∷ c.from-number.result ∷ c.from-place.result ∷ c.from.result ∷ [] ≡ numbers_of a.n (Err a.r)
     = rw (c.from-number.ensures, c.from-place.ensures, c.from.ensures, with_bit) in
-    let line = image_put a.out.now a.at a.n (Err a.r) same (omega arith) (omega arith) c.put_row.ensures.wrote in
-    record { wrote = line.0; upper_bound = line.1 }
+    let line = image_put a.n (Err a.r) same (omega arith) (omega arith) c.put_row.ensures.added in
+    record { added = line.0; upper_bound = line.1 }
 
-pub returns : goal.returns
-returns c =
+pub returns-else-has_bit : goal.returns-else-has_bit
+returns-else-has_bit c =
     let a = c.args in
     let no_bit : has_bit a.r.number ≡ false = sym c.has_bit.ensures ∙ c.if-has_bit.false in
     let same : a.n ∷ c.from-number.result ∷ c.from-place.result ∷ [] ≡ numbers_of a.n (Err a.r)
     = rw (c.from-number.ensures, c.from-place.ensures, no_bit) in
-    let line = image_put a.out.now a.at a.n (Err a.r) same (omega arith) (omega arith) c.put_row-2.ensures.wrote in
-    record { wrote = line.0; upper_bound = line.1 }
+    let line = image_put a.n (Err a.r) same (omega arith) (omega arith) c.put_row-else-has_bit.ensures.added in
+    record { added = line.0; upper_bound = line.1 }
