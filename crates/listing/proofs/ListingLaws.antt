@@ -1,46 +1,58 @@
 -- Laws of the lines of a listing. Assumes nothing.
-use mathlib.Core.Path.{◌≡◌, sym, ap, ◌∙◌}
-use mathlib.Core.List.{List, [], ◌++◌}
+use mathlib.Core.Path.{◌≡◌, sym, ap, ap₂, ◌∙◌}
+use mathlib.Core.List.{List, ◌++◌}
 use Prim.Native.Nat.{ℕ, ◌+◌, ◌*◌, ◌/◌, ◌%◌, ◌≤◌, ◌<◌}
 use native.Mathlib.Numerals.{add-one}
 use native.Mathlib.Omega.{arith}
 use borrow.Author.Tests.{lt-ltb, le-ltb}
-use lib.ListN.{length, take, drop, length-append}
+use lib.ListN.{length, take, drop, length-append, length-drop}
+use lib.Seq.{take_at, drop_at, drop-drop}
 use Rattle.pair.specs.Opening.{Opened, open_of}
 use Rattle.text.specs.Text.{too_long}
-use Rattle.text.specs.Wrote.{Wrote}
+use Rattle.text.specs.Adds.{Adds}
+use Rattle.text.specs.declared.Sheet.{Sheet}
 use Rattle.image_lines.specs.ImageLines.{image_line, last_line}
 use Rattle.listing.specs.Listing.{header, image_lines, image_at, listing_of}
-use Rattle.text.proofs.WroteLaws.{put_put, put_as}
+use Rattle.text.proofs.AddsLaws.{adds_none, adds_as, adds_adds}
+
+-- of the octets from image k on, the first sixteen are the image, and the others are those from the next on
+pub image_next : (log : List ℕ) (k : ℕ) {left image rest : List ℕ} → left ≡ drop (k * 16) log → left ≡ image ++ rest → length image ≡ 16
+    → (k * 16 + 16 ≤ length log) × (image ≡ image_at log k) × (rest ≡ drop ((k + 1) * 16) log)
+unfolding image_at
+image_next log k {left} {image} {rest} from is sixteen =
+    let past : k * 16 + 16 ≡ (k + 1) * 16 = omega arith in (
+      omega (arith, ap length (sym is ∙ from), length-append image rest, length-drop (k * 16) log, sixteen),
+      sym (take_at image rest 16 sixteen) ∙ ap (take 16) (sym is ∙ from),
+      sym (drop_at image rest 16 sixteen) ∙ ap (drop 16) (sym is ∙ from) ∙ drop-drop 16 (k * 16) log ∙ ap (λ (n : ℕ). drop n log) past,
+    )
+
+-- where fewer are left, k images are all
+pub images_done : (log : List ℕ) (k : ℕ) {left : List ℕ} → k * 16 ≤ length log → left ≡ drop (k * 16) log → length left < 16 → k ≡ length log / 16
+images_done log k within from few = omega (arith, within, few, ap length from, length-drop (k * 16) log)
 
 -- no line
-pub lines_none : (log : List ℕ) {d e : List ℕ} {at r : ℕ} → Wrote d at [] e r → Wrote d at (image_lines log 0) e r
+pub lines_none : (log : List ℕ) (s : Sheet) → Adds s (image_lines log 0) s
 unfolding image_lines
-lines_none log w = w
+lines_none log s = adds_none s
 
--- one line more. m is 16, as the code computes it
-pub lines_more : (log : List ℕ) (n : ℕ) {m : ℕ} {o : Opened} → m ≡ 16 → o ≡ open_of (take m (drop (n * 16) log))
-    → image_lines log n ++ image_line (n + 1) o ≡ image_lines log (n + 1)
-unfolding image_lines image_at
-lines_more log n {m} {o} h is =
-    ap (λ (p : Opened). image_lines log n ++ image_line (n + 1) p) (is ∙ ap (λ (k : ℕ). open_of (take k (drop (n * 16) log))) h)
-    ∙ ap (λ (k : ℕ). image_lines log n ++ image_line k (open_of (take 16 (drop (n * 16) log)))) (add-one n)
-    ∙ ap (image_lines log) (sym (add-one n))
+-- one line more
+pub lines_more : (log : List ℕ) (k : ℕ) {n : ℕ} {o : Opened} → n ≡ k → o ≡ open_of (image_at log k)
+    → image_lines log k ++ image_line (n + 1) o ≡ image_lines log (k + 1)
+unfolding image_lines
+lines_more log k {n} {o} number is =
+    ap₂ (λ (m : ℕ) (p : Opened). image_lines log k ++ image_line m p) (ap (λ (m : ℕ). m + 1) number ∙ add-one k) is
+    ∙ ap (image_lines log) (sym (add-one k))
 
 -- the header, the lines and the last line are the listing
-pub listed : (log d : List ℕ) {e f g : List ℕ} {q r t : ℕ} → length log ≤ 65536 → 82000 ≤ length d → r ≤ q + 20 * (length log / 16)
-    → Wrote d 0 header e q → Wrote e q (image_lines log (length log / 16)) f r → Wrote f r (last_line (length log / 16) (length log % 16)) g t
-    → Wrote d 0 (listing_of log) g t
+pub listed : (log : List ℕ) {s t u v : Sheet} → length log ≤ 65536 → Adds s header t → Adds t (image_lines log (length log / 16)) u
+    → Adds u (last_line (length log / 16) (length log % 16)) v → Adds s (listing_of log) v
 unfolding listing_of
-listed log d {e} {f} {g} {q} {r} {t} few room short w v u =
-    let six : q ≡ 6 = w.next in
-    let all = put_put (omega arith) (put_put (omega arith) w v) u in
-    put_as (simp (le-ltb 65536 (length log) few)) all
+listed log few a b c = adds_as (simp (le-ltb 65536 (length log) few)) (adds_adds (adds_adds a b) c)
 
 -- a log that is too long
-pub listed_long : (log d : List ℕ) {e : List ℕ} {r : ℕ} → 65536 < length log → Wrote d 0 too_long e r → Wrote d 0 (listing_of log) e r
+pub listed_long : (log : List ℕ) {s t : Sheet} → 65536 < length log → Adds s too_long t → Adds s (listing_of log) t
 unfolding listing_of
-listed_long log d many w = put_as (simp (lt-ltb 65536 (length log) many)) w
+listed_long log many a = adds_as (simp (lt-ltb 65536 (length log) many)) a
 
 -- of a log that is too long no more counts
 pub longer_listed : (log more : List ℕ) → 65536 < length log → listing_of (log ++ more) ≡ listing_of log

@@ -2,15 +2,16 @@
 
 #![tactic(auto)]
 
-ghost use Rattle.std.specs.Prelude.{◌≡◌, ◌≤◌, length, IfSome, Err, OnOk};
+ghost use Rattle.std.specs.Prelude.{◌≡◌, ◌+◌, ◌≤◌, length, IfSome, Err, OnOk};
 ghost use Rattle.std.specs.Io.KnownBytes.{Appends, Keeps};
+ghost use Rattle.text.specs.Adds.{Adds};
 ghost use Rattle.text.specs.Counts.{IsPrefixLen};
 ghost use Rattle.text.specs.Wrote.{Wrote};
 ghost use Rattle.text.specs.declared.Failure.TheVariants.{Unread};
 ghost use Rattle.listing.specs.Listing.{listing_of};
 
 use std::io::{Read, Write};
-use text::Failure;
+use text::{Failure, Sheet};
 
 // The longest log that is listed, in octets: 4,096 images.
 const MOST: usize = 65536;
@@ -19,22 +20,19 @@ const MOST: usize = 65536;
 pub const ROOM: usize = 82000;
 
 // Puts the whole listing.
-fn fill(log: &[u8], out: &mut [u8]) -> usize
-    requires { 82000 ≤ length out.old }
-    ensures prefix_len { IsPrefixLen result out.new }
-    ensures wrote { Wrote out.old 0 (listing_of log.now) out.new result }
+fn fill(sheet: &mut Sheet, log: &[u8])
+    requires { sheet.old.written + 82000 ≤ length sheet.old.out.now }
+    ensures { Adds sheet.old (listing_of log.now) sheet.new }
 {
     if log.len() > MOST {
-        return text::put(out, 0, b"TOO LONG\n");
+        sheet.put(b"TOO LONG\n");
+        return;
     }
-    let count = log.len() / 16;
-    let mut at = text::put(out, 0, b"LINK1\n");
-    for n in 0..count {
-        let from = n * 16;
-        let opened = opening::open(&log[from..from + 16]);
-        at = image_lines::put_image(out, at, n as u64 + 1, opened);
+    sheet.put(b"LINK1\n");
+    for (k, image) in log.chunks_exact(16).enumerate() {
+        image_lines::put_image(sheet, k as u64 + 1, opening::open(image));
     }
-    image_lines::put_last(out, at, count as u64, (log.len() % 16) as u64)
+    image_lines::put_last(sheet, (log.len() / 16) as u64, (log.len() % 16) as u64);
 }
 
 // Puts the listing of log at the start of out, and answers its length. Any log will do.
@@ -42,7 +40,9 @@ pub fn list_log(log: &[u8], out: &mut [u8; ROOM]) -> usize
     ensures prefix_len { IsPrefixLen result out.new }
     ensures wrote { Wrote out.old 0 (listing_of log.now) out.new result }
 {
-    fill(log, out)
+    let mut sheet = Sheet { out, written: 0 };
+    fill(&mut sheet, log);
+    sheet.written
 }
 
 // Lists to a writer the log that is read from a reader. One octet more than a log may have is read, to tell that it has more.

@@ -1,34 +1,58 @@
 -- `listing::fill` meets its contract. Assumes nothing.
-use Rattle.std.proofs.Common.{◌≡◌, ◌+◌, ◌-◌, ◌*◌, ◌/◌, length, arith, refl, ap, ◌∙◌}
-use Rattle.text.proofs.WroteLaws.{put_none, put_as, put_put}
-use Rattle.listing.specs.Listing.{image_lines}
-use Rattle.listing.proofs.ListingLaws.{lines_none, lines_more, listed, listed_long}
+use Rattle.std.proofs.Common.{arith, ap, ◌∙◌}
+use Rattle.std.specs.Iterator.Adapters.{enumerate_count}
+use Rattle.pair.specs.Opening.{open_of}
+use Rattle.text.proofs.AddsLaws.{adds_as, adds_adds}
+use Rattle.listing.proofs.ListingLaws.{image_next, images_done, lines_none, lines_more, listed, listed_long}
 use Rattle.listing.proofs.fill.Goals as goal
 
-pub returns-then-log-gt-MOST-clause-wrote : goal.returns-then-log-gt-MOST-clause-wrote
-returns-then-log-gt-MOST-clause-wrote c = listed_long c.args.log.now c.args.out.now c.if-log-gt-MOST.true c.put.ensures
+pub returns-then-log-gt-MOST : goal.returns-then-log-gt-MOST
+returns-then-log-gt-MOST c = listed_long c.args.log.now c.if-log-gt-MOST.true c.put.ensures
 
-pub loop-n-init : goal.loop-n-init
-loop-n-init c =
-    let lines = lines_none c.args.log.now (put_none c.put-at.new.out c.put-at.result) in
-    record { within = omega arith; same = refl; upper = omega arith; wrote = lines }
-
-pub loop-n-preserved : goal.loop-n-preserved
-loop-n-preserved c =
-    let l = c.loop-n in
-    let more = put_put (omega arith) l.invariant.wrote c.put_image-at.ensures.wrote in
-    let sixteen : l.n * 16 + 16 - l.n * 16 ≡ 16 = omega arith in
-    record {
+pub loop-k-init : goal.loop-k-init
+loop-k-init c =
+    let chunks = c.chunks_exact.ensures in
+    let items = c.enumerate-k-items.ensures in
+    rw (c.into_iter-k-iterator.ensures.into_iter_gives, items.count, items.source) record {
       within = omega arith;
-      same = c.put_image-at.auto.out ∙ l.invariant.same;
+      size = chunks.size;
+      left = chunks.rest;
       upper = omega arith;
-      wrote = put_as (lines_more c.args.log.now l.n sixteen c.open-opened.ensures) more;
+      added = lines_none c.args.log.now c.put-2.new.self;
     }
 
-pub returns-clause-wrote : goal.returns-clause-wrote
-returns-clause-wrote c =
-    let l = c.loop-n in
+pub put_image-requires : goal.put_image-requires
+put_image-requires c =
+    let i = c.loop-k.invariant in
+    let s = c.in-Some.ensures.steps in
+    let inside = (image_next c.args.log.now (enumerate_count c.loop-k.k-iterator) i.left s.0.1.0 (s.0.1.1 ∙ i.size)).0 in
+    (omega arith, omega arith)
+
+pub loop-k-preserved : goal.loop-k-preserved
+loop-k-preserved c =
+    let i = c.loop-k.invariant in
+    let s = c.in-Some.ensures.steps in
     let log = c.args.log.now in
-    let done : l.n ≡ length log / 16 = omega arith in
-    let lines = put_as (ap (image_lines log) done) l.invariant.wrote in
-    listed log c.args.out.now (omega arith) c.requires (omega arith) c.put-at.ensures lines c.put_last.ensures.wrote
+    let k = enumerate_count c.loop-k.k-iterator in
+    let next = image_next log k {image = c.in-Some.image.now} i.left s.0.1.0 (s.0.1.1 ∙ i.size) in
+    rw s.2
+    record {
+      within = omega (arith, next.0);
+      size = s.0.0 ∙ i.size;
+      left = next.2;
+      upper = omega arith;
+      added = adds_as (lines_more log k s.1 (c.open.ensures ∙ ap open_of next.1)) (adds_adds i.added c.put_image.ensures.added);
+    }
+
+pub put_last-requires : goal.put_last-requires
+put_last-requires c =
+    let i = c.loop-k.invariant in
+    omega arith
+
+pub returns : goal.returns
+returns c =
+    let log = c.args.log.now in
+    let i = c.loop-k.invariant in
+    let s = c.in-None.ensures.steps in
+    let done = images_done log (enumerate_count c.loop-k.k-iterator) i.within i.left (rw i.size at s.0.1.0) in
+    listed log c.if-log-gt-MOST.false c.put-2.ensures (rw done at i.added) c.put_last.ensures.added
