@@ -10,9 +10,10 @@ use lib.ListN.{length, length-append}
 use Rattle.bits.specs.Octets.{AreOctets}
 use Rattle.bits.specs.Tests.{pick}
 use Rattle.text.specs.Text.{dec_then, row, too_long}
-use Rattle.text.specs.Wrote.{Wrote}
+use Rattle.text.specs.Adds.{Adds}
+use Rattle.text.specs.declared.Sheet.{Sheet}
 use Rattle.text.proofs.TextLaws.{row_short}
-use Rattle.text.proofs.WroteLaws.{put_none, put_put, put_as}
+use Rattle.text.proofs.AddsLaws.{adds_none, adds_as, adds_adds}
 use Rattle.octets.specs.Feeding.{fresh_octets, fed_to, heard_at}
 use Rattle.octets.specs.declared.HeardOctet.{HeardOctet}
 use Rattle.hearing.specs.Ends.{ends_after, ends_to, ends_of, end_in}
@@ -27,18 +28,17 @@ lines_append (x ∷ xs) ys =
 
 -- ---- the line of an octet
 
-pub end_put : (d : List ℕ) (at k : ℕ) (h : HeardOctet) {e : List ℕ} {r : ℕ} → h.frame ≡ true → Wrote d at (dec_then (8 * k + h.bit) 10) e r
-    → Wrote d at (lines_of (end_in k h)) e r
+pub end_put : (k : ℕ) (h : HeardOctet) {s t : Sheet} → h.frame ≡ true → Adds s (dec_then (8 * k + h.bit) 10) t → Adds s (lines_of (end_in k h)) t
 unfolding lines_of row
-end_put d at k h f w =
-    put_as
+end_put k h f a =
+    adds_as
     (sym
     (ap (λ (t : Bool). lines_of (pick t ((8 * k + h.bit) ∷ []) [])) f ∙ append-nil (dec_then (8 * k + h.bit) 10)))
-    w
+    a
 
-pub end_none : (d : List ℕ) (at k : ℕ) (h : HeardOctet) → h.frame ≡ false → Wrote d at (lines_of (end_in k h)) d at
+pub end_none : (k : ℕ) (h : HeardOctet) (s : Sheet) → h.frame ≡ false → Adds s (lines_of (end_in k h)) s
 unfolding lines_of
-end_none d at k h f = put_as (sym (ap (λ (t : Bool). lines_of (pick t ((8 * k + h.bit) ∷ []) [])) f)) (put_none d at)
+end_none k h s f = adds_as (sym (ap (λ (t : Bool). lines_of (pick t ((8 * k + h.bit) ∷ []) [])) f)) (adds_none s)
 
 -- ---- how long the lines are
 
@@ -62,21 +62,21 @@ lines_few capture k h = omega (arith, lines_short capture (8 * k) (omega arith),
 
 -- ---- the text, octet by octet
 
-module _ (capture d : List ℕ) where
-  pub lines_none : Wrote d 0 (lines_of (ends_to capture (8 * 0))) d 0
+module _ (capture : List ℕ) where
+  pub lines_none : (s : Sheet) → Adds s (lines_of (ends_to capture (8 * 0))) s
   unfolding ends_to lines_of
-  lines_none = put_none d 0
+  lines_none s = adds_none s
 
   -- one octet more
-  pub lines_more : AreOctets capture → (k : ℕ) → k < length capture → {h : HeardOctet} {e f : List ℕ} {r s : ℕ} → h ≡ heard_at capture k → r ≤ length d
-      → Wrote d 0 (lines_of (ends_to capture (8 * k))) e r → Wrote e r (lines_of (end_in k h)) f s → Wrote d 0 (lines_of (ends_to capture (8 * (k + 1)))) f s
-  lines_more octets k inside is room w v =
+  pub lines_more : AreOctets capture → (k : ℕ) → k < length capture → {h : HeardOctet} {s t u : Sheet} → h ≡ heard_at capture k
+      → Adds s (lines_of (ends_to capture (8 * k))) t → Adds t (lines_of (end_in k h)) u → Adds s (lines_of (ends_to capture (8 * (k + 1)))) u
+  lines_more octets k inside is a b =
       let next : 8 * k + 8 ≡ 8 * (k + 1) = omega arith in
-      put_as
+      adds_as
       (sym (lines_append (ends_to capture (8 * k)) _)
       ∙ ap lines_of
       (ap (λ (h : HeardOctet). ends_to capture (8 * k) ++ end_in k h) is ∙ sym (octet_ends capture octets k inside) ∙ ap (ends_to capture) next))
-      (put_put room w v)
+      (adds_adds a b)
 
 -- the receiver, octet by octet
 module _ (capture : List ℕ) where
@@ -90,16 +90,16 @@ module _ (capture : List ℕ) where
 
 -- ---- the whole text
 
-module _ (capture d : List ℕ) where
+module _ (capture : List ℕ) {s t : Sheet} where
   -- the lines of all octets are the text
-  pub heard : {e : List ℕ} {r : ℕ} → length capture ≤ 65536 → Wrote d 0 (lines_of (ends_of capture)) e r → Wrote d 0 (hearing_of capture) e r
+  pub heard : length capture ≤ 65536 → Adds s (lines_of (ends_of capture)) t → Adds s (hearing_of capture) t
   unfolding hearing_of
-  heard few w = put_as (simp (le-ltb 65536 (length capture) few)) w
+  heard few a = adds_as (simp (le-ltb 65536 (length capture) few)) a
 
   -- a capture that is too long
-  pub heard_long : {e : List ℕ} {r : ℕ} → 65536 < length capture → Wrote d 0 too_long e r → Wrote d 0 (hearing_of capture) e r
+  pub heard_long : 65536 < length capture → Adds s too_long t → Adds s (hearing_of capture) t
   unfolding hearing_of
-  heard_long many w = put_as (simp (lt-ltb 65536 (length capture) many)) w
+  heard_long many a = adds_as (simp (lt-ltb 65536 (length capture) many)) a
 
 -- of a capture that is too long no more counts
 pub longer_heard : (capture more : List ℕ) → 65536 < length capture → hearing_of (capture ++ more) ≡ hearing_of capture

@@ -4,6 +4,7 @@
 
 ghost use Rattle.std.specs.Prelude.{◌+◌, ◌≤◌, ◌<◌, ◌≡◌, length, IfSome, Err, OnOk};
 ghost use Rattle.std.specs.Io.KnownBytes.{Appends, Keeps};
+ghost use Rattle.text.specs.Adds.{Adds};
 ghost use Rattle.text.specs.Counts.{IsPrefixLen};
 ghost use Rattle.text.specs.Wrote.{Wrote};
 ghost use Rattle.text.specs.declared.Failure.TheVariants.{Unread};
@@ -12,7 +13,7 @@ ghost use Rattle.hearing.specs.Hearing.{lines_of, hearing_of};
 
 use octets::{HeardOctet, OctetReceiver};
 use std::io::{Read, Write};
-use text::Failure;
+use text::{Failure, Sheet};
 
 // The longest capture that is heard, in octets.
 const MOST: usize = 65536;
@@ -21,33 +22,30 @@ const MOST: usize = 65536;
 pub const ROOM: usize = 28700;
 
 // Puts the line for octet k, if a frame ended in it: the bits read through its last.
-fn put_end(out: &mut [u8], at: usize, k: usize, heard: HeardOctet) -> usize
-    requires { (at + 21 ≤ length out.old) × (k < 65536) }
-    ensures { Wrote out.old at (lines_of (end_in k heard)) out.new result }
+fn put_end(sheet: &mut Sheet, k: usize, heard: HeardOctet)
+    requires { (sheet.old.written + 21 ≤ length sheet.old.out.now) × (k < 65536) }
+    ensures { Adds sheet.old (lines_of (end_in k heard)) sheet.new }
 {
     if heard.frame {
-        return text::put_number(out, at, (8 * k + usize::from(heard.bit)) as u64, b'\n');
+        sheet.put_number((8 * k + usize::from(heard.bit)) as u64, b'\n');
     }
-    at
 }
 
 // Puts the whole text.
-fn fill(capture: &[u8], out: &mut [u8]) -> usize
-    requires { 28700 ≤ length out.old }
-    ensures prefix_len { IsPrefixLen result out.new }
-    ensures wrote { Wrote out.old 0 (hearing_of capture.now) out.new result }
+fn fill(sheet: &mut Sheet, capture: &[u8])
+    requires { sheet.old.written + 28700 ≤ length sheet.old.out.now }
+    ensures { Adds sheet.old (hearing_of capture.now) sheet.new }
 {
     if capture.len() > MOST {
-        return text::put(out, 0, b"TOO LONG\n");
+        sheet.put(b"TOO LONG\n");
+        return;
     }
     let mut receiver = OctetReceiver::fresh();
-    let mut at: usize = 0;
     for (k, octet) in capture.iter().enumerate() {
         let heard = receiver.step(*octet);
-        at = put_end(out, at, k, heard);
+        put_end(sheet, k, heard);
         receiver = heard.receiver;
     }
-    at
 }
 
 // Puts a line for each frame heard in capture at the start of out, and answers their length. Any capture will do.
@@ -55,7 +53,9 @@ pub fn hear_capture(capture: &[u8], out: &mut [u8; ROOM]) -> usize
     ensures prefix_len { IsPrefixLen result out.new }
     ensures wrote { Wrote out.old 0 (hearing_of capture.now) out.new result }
 {
-    fill(capture, out)
+    let mut sheet = Sheet { out, written: 0 };
+    fill(&mut sheet, capture);
+    sheet.written
 }
 
 // Tells to a writer the frames of the capture that is read from a reader. One octet more than a capture may have is read, to tell that it

@@ -1,6 +1,6 @@
--- The receiver has been fed the octets passed, and the lines for them stand in the buffer.
+-- The receiver has been fed the octets passed, and the lines for them stand on the sheet.
 use Rattle.std.proofs.Common.{◌≡◌, ◌*◌, ◌≤◌, length}
-use Rattle.text.specs.Wrote.{Wrote}
+use Rattle.text.specs.Adds.{Adds}
 use Rattle.octets.specs.Feeding.{fed_to}
 use Rattle.hearing.specs.Ends.{ends_to}
 use Rattle.hearing.specs.Hearing.{lines_of}
@@ -9,7 +9,6 @@ use Rattle.hearing.proofs.fill.Given as goal
 abbrev pub invariant-loop-k : goal.invariant-loop-k
 invariant-loop-k l = record {
   within : l.k ≤ length l.capture;
-  same : length l.out ≡ length l.fn.out;
   fed : l.receiver ≡ fed_to l.capture l.k;
-  wrote : Wrote l.fn.out 0 (lines_of (ends_to l.capture (8 * l.k))) l.out l.at;
+  added : Adds l.fn.sheet (lines_of (ends_to l.capture (8 * l.k))) l.sheet;
 }
