@@ -1,5 +1,4 @@
 pub mod AddsLaws
-pub mod CountLaws
 pub mod ReadLaws
 pub mod WroteLaws
 pub mod TextLaws

@@ -1,5 +1,5 @@
 -- Laws of texts that are put into a buffer. Assumes nothing.
-use mathlib.Core.Path.{◌≡◌, refl, sym, ap, subst, ◌∙◌}
+use mathlib.Core.Path.{◌≡◌, refl, sym, ap, ◌∙◌}
 use mathlib.Core.List.{List, [], ◌++◌, append_assoc, append-nil}
 use Prim.Native.Nat.{ℕ, ◌+◌, ◌-◌, ◌≤◌}
 use native.Mathlib.Nat.{add-zero}
@@ -19,10 +19,6 @@ head_length d at xs h = length-append (take at d) xs ∙ ap (λ (k : ℕ). k + l
 pub put_none : (d : List ℕ) (at : ℕ) → Wrote d at [] d at
 unfolding pasted
 put_none d at = record { next = sym (add-zero at); text = paste-zero d at [] }
-
--- the same text by another name
-pub put_as : {d xs ys e : List ℕ} {at r : ℕ} → xs ≡ ys → Wrote d at xs e r → Wrote d at ys e r
-put_as {d} {xs} {ys} {e} {at} {r} same w = subst (λ (t : List ℕ). Wrote d at t e r) same w
 
 -- one text after another is the two together
 pub put_put : {d xs ys e f : List ℕ} {at r s : ℕ} → r ≤ length d → Wrote d at xs e r → Wrote e r ys f s → Wrote d at (xs ++ ys) f s
