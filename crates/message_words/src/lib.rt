@@ -4,9 +4,10 @@
 
 use kind::Kind;
 use message::{Amplifying, Corner, Iff, Message, Strobe, Track};
-use parts::{numbers, show};
+use parts::{NotUnderstood, Parts, show};
 use std::io;
 use std::io::Write;
+use std::slice::Iter;
 use units::{AltSteps, LinkSteps};
 
 // The words of a kind's fields.
@@ -53,46 +54,40 @@ fn words_of(kind: Kind) -> &'static [&'static str] {
 
 // ---- read from a line's parts
 
-// A line, the part of it that comes next, and the words of the fields with how many have passed.
-#[derive(Clone, Copy)]
-struct Walk<'a> {
-    line: &'a [u8],
-    next: usize,
-    words: &'static [&'static str],
-    passed: usize,
+// The parts of a line that a message's fields are, and the words of those that come.
+#[derive(Drop)]
+struct Walk<'w, 'a> {
+    parts: &'w mut Parts<'a>,
+    words: Iter<'static, &'static str>,
 }
 
-impl<'a> Walk<'a> {
-    // Passes a field, and answers the part that its number is.
-    fn pass(&mut self) -> Option<usize> {
-        let word = self.words.get(self.passed)?;
-        let part = self.next;
-        self.passed = self.passed.wrapping_add(1);
-        self.next = part.wrapping_add(2);
-        parts::says(self.line, part, word.as_bytes()).then_some(part.wrapping_add(1))
+impl<'w, 'a> Walk<'w, 'a> {
+    // Takes the word of the field that comes.
+    fn word(&mut self) -> Result<(), NotUnderstood> {
+        let word = self.words.next().ok_or(NotUnderstood)?;
+        self.parts.word(word.as_bytes())
     }
 
-    fn field<T: TryFrom<i64>>(&mut self) -> Option<T>
+    fn field<T: TryFrom<i64>>(&mut self) -> Result<T, NotUnderstood>
     where
         T::Error: Drop,
     {
-        numbers::at(self.line, self.pass()?, 0)
+        self.word()?;
+        self.parts.number()
     }
 
-    fn flag(&mut self) -> Option<bool> {
-        numbers::bool_at(self.line, self.pass()?, 0)
+    fn flag(&mut self) -> Result<bool, NotUnderstood> {
+        self.word()?;
+        self.parts.flag()
     }
 
-    fn mode(&mut self) -> Option<Option<u16>> {
-        let part = self.pass()?;
-        if parts::says(self.line, part, b"absent") {
-            return Some(None);
-        }
-        numbers::at(self.line, part, 0).map(Some)
+    fn mode(&mut self) -> Result<Option<u16>, NotUnderstood> {
+        self.word()?;
+        self.parts.number_or(b"absent")
     }
 
-    fn iff(&mut self) -> Option<Iff> {
-        Some(Iff {
+    fn iff(&mut self) -> Result<Iff, NotUnderstood> {
+        Ok(Iff {
             mode3a: self.mode()?,
             request: self.field()?,
             emergency: self.flag()?,
@@ -102,8 +97,8 @@ impl<'a> Walk<'a> {
         })
     }
 
-    fn track(&mut self) -> Option<Track> {
-        Some(Track {
+    fn track(&mut self) -> Result<Track, NotUnderstood> {
+        Ok(Track {
             number: self.field()?,
             quality: self.field()?,
             x: LinkSteps(self.field()?),
@@ -111,8 +106,8 @@ impl<'a> Walk<'a> {
         })
     }
 
-    fn amplifying(&mut self) -> Option<Amplifying> {
-        Some(Amplifying {
+    fn amplifying(&mut self) -> Result<Amplifying, NotUnderstood> {
+        Ok(Amplifying {
             altitude: AltSteps(self.field()?),
             strength: self.field()?,
             identification: self.field()?,
@@ -127,8 +122,8 @@ impl<'a> Walk<'a> {
         })
     }
 
-    fn strobe(&mut self) -> Option<Strobe> {
-        Some(Strobe {
+    fn strobe(&mut self) -> Result<Strobe, NotUnderstood> {
+        Ok(Strobe {
             acquisition: self.flag()?,
             width: self.field()?,
             strobe_type: self.field()?,
@@ -142,8 +137,8 @@ impl<'a> Walk<'a> {
         })
     }
 
-    fn corner(&mut self) -> Option<Corner> {
-        Some(Corner {
+    fn corner(&mut self) -> Result<Corner, NotUnderstood> {
+        Ok(Corner {
             area: self.field()?,
             site: self.field()?,
             number: self.field()?,
@@ -153,60 +148,44 @@ impl<'a> Walk<'a> {
         })
     }
 
-    fn message(&mut self, kind: Kind) -> Option<Message> {
+    fn message(&mut self, kind: Kind) -> Result<Message, NotUnderstood> {
         match kind {
-            Kind::Blank => Some(Message::Blank),
-            Kind::S0 => Some(Message::S0),
-            Kind::S3 => Some(Message::S3(self.iff()?)),
-            Kind::S4 => Some(Message::S4(self.track()?)),
-            Kind::S4Plus => Some(Message::S4Plus(self.track()?)),
-            Kind::S5 => Some(Message::S5(self.amplifying()?)),
-            Kind::S6 => Some(Message::S6(self.strobe()?)),
-            Kind::S8 => Some(Message::S8(self.track()?)),
-            Kind::S8Plus => Some(Message::S8Plus(self.track()?)),
-            Kind::S9 => Some(Message::S9(self.corner()?)),
+            Kind::Blank => Ok(Message::Blank),
+            Kind::S0 => Ok(Message::S0),
+            Kind::S3 => Ok(Message::S3(self.iff()?)),
+            Kind::S4 => Ok(Message::S4(self.track()?)),
+            Kind::S4Plus => Ok(Message::S4Plus(self.track()?)),
+            Kind::S5 => Ok(Message::S5(self.amplifying()?)),
+            Kind::S6 => Ok(Message::S6(self.strobe()?)),
+            Kind::S8 => Ok(Message::S8(self.track()?)),
+            Kind::S8Plus => Ok(Message::S8Plus(self.track()?)),
+            Kind::S9 => Ok(Message::S9(self.corner()?)),
         }
     }
 }
 
-// The kind whose word is part k.
-pub fn take_kind(line: &[u8], k: usize) -> Option<Kind> {
-    match parts::part(line, k)? {
-        b"Blank" => Some(Kind::Blank),
-        b"S0" => Some(Kind::S0),
-        b"S3" => Some(Kind::S3),
-        b"S4" => Some(Kind::S4),
-        b"S4+" => Some(Kind::S4Plus),
-        b"S5" => Some(Kind::S5),
-        b"S6" => Some(Kind::S6),
-        b"S8" => Some(Kind::S8),
-        b"S8+" => Some(Kind::S8Plus),
-        b"S9" => Some(Kind::S9),
-        _ => None,
+// Takes a kind's word.
+pub fn take_kind(parts: &mut Parts) -> Result<Kind, NotUnderstood> {
+    match parts.part()? {
+        b"Blank" => Ok(Kind::Blank),
+        b"S0" => Ok(Kind::S0),
+        b"S3" => Ok(Kind::S3),
+        b"S4" => Ok(Kind::S4),
+        b"S4+" => Ok(Kind::S4Plus),
+        b"S5" => Ok(Kind::S5),
+        b"S6" => Ok(Kind::S6),
+        b"S8" => Ok(Kind::S8),
+        b"S8+" => Ok(Kind::S8Plus),
+        b"S9" => Ok(Kind::S9),
+        _ => Err(NotUnderstood),
     }
 }
 
-// A message that a line says, and the part behind it.
-#[derive(Clone, Copy)]
-pub struct Said {
-    pub message: Message,
-    pub next: usize,
-}
-
-// The message that the parts from k on make.
-pub fn take(line: &[u8], k: usize) -> Option<Said> {
-    let kind = take_kind(line, k)?;
-    let mut walk = Walk {
-        line,
-        next: k.wrapping_add(1),
-        words: words_of(kind),
-        passed: 0,
-    };
-    let message = walk.message(kind)?;
-    Some(Said {
-        message,
-        next: walk.next,
-    })
+// Takes the parts that a message is.
+pub fn take(parts: &mut Parts) -> Result<Message, NotUnderstood> {
+    let kind = take_kind(parts)?;
+    let words = words_of(kind).iter();
+    Walk { parts, words }.message(kind)
 }
 
 // ---- told

@@ -4,7 +4,7 @@
 
 mod calls;
 
-use parts::show;
+use parts::{Unanswered, show};
 use std::io;
 use std::io::{Read, Write};
 
@@ -16,7 +16,11 @@ fn answer_whole<W: Write>(out: &mut W, line: &[u8], space: &mut [u8]) -> io::Res
     match line.first() {
         None => Ok(()),
         Some(b'#') => show::text(out, line),
-        Some(_) => calls::call(out, line, space),
+        Some(_) => match calls::call(out, line, space) {
+            Err(Unanswered::NotUnderstood) => show::refuse(out),
+            Err(Unanswered::Unwritten(error)) => Err(error),
+            Ok(()) => Ok(()),
+        },
     }
 }
 
