@@ -2,7 +2,9 @@
 
 #![tactic(auto)]
 
-use kind::Kind;
+ghost use Rattle.std.specs.Prelude.{◌≡◌};
+
+use kind::{KINDS, Kind};
 use message::{Amplifying, Corner, Iff, Message, Strobe, Track};
 use parts::{NotUnderstood, Parts, show};
 use std::io;
@@ -10,46 +12,74 @@ use std::io::Write;
 use std::slice::Iter;
 use units::{AltSteps, LinkSteps};
 
-// The words of a kind's fields.
-fn words_of(kind: Kind) -> &'static [&'static str] {
-    match kind {
-        Kind::Blank | Kind::S0 => &[],
-        Kind::S3 => &[
-            "mode3a",
-            "request",
-            "emergency",
-            "validation",
-            "mode1",
-            "mode2",
-        ],
-        Kind::S4 | Kind::S4Plus | Kind::S8 | Kind::S8Plus => &["number", "quality", "x", "y"],
-        Kind::S5 => &[
-            "altitude",
-            "strength",
-            "identification",
-            "special23",
-            "simulated",
-            "drop",
-            "traffic",
-            "vx",
-            "allocation",
-            "special39",
-            "vy",
-        ],
-        Kind::S6 => &[
-            "acquisition",
-            "width",
-            "strobe_type",
-            "simulated",
-            "azimuth",
-            "site",
-            "sensor",
-            "number",
-            "elevation",
-            "age",
-        ],
-        Kind::S9 => &["area", "site", "number", "drop", "x", "y"],
-    }
+// A kind, its word, and the words of its fields in the order of its struct.
+#[derive(Clone, Copy)]
+struct Words(Kind, &'static str, &'static [&'static str]);
+
+// The fields of S.3.
+const IFF: &[&str] = &[
+    "mode3a",
+    "request",
+    "emergency",
+    "validation",
+    "mode1",
+    "mode2",
+];
+
+// S.4, S.4+, S.8 and S.8+.
+const TRACK: &[&str] = &["number", "quality", "x", "y"];
+
+// S.5.
+const AMPLIFYING: &[&str] = &[
+    "altitude",
+    "strength",
+    "identification",
+    "special23",
+    "simulated",
+    "drop",
+    "traffic",
+    "vx",
+    "allocation",
+    "special39",
+    "vy",
+];
+
+// S.6.
+const STROBE: &[&str] = &[
+    "acquisition",
+    "width",
+    "strobe_type",
+    "simulated",
+    "azimuth",
+    "site",
+    "sensor",
+    "number",
+    "elevation",
+    "age",
+];
+
+// S.9.
+const CORNER: &[&str] = &["area", "site", "number", "drop", "x", "y"];
+
+// The words in the order of the kinds' numbers.
+const WORDS: [Words; KINDS] = [
+    Words(Kind::Blank, "Blank", &[]),
+    Words(Kind::S0, "S0", &[]),
+    Words(Kind::S3, "S3", IFF),
+    Words(Kind::S4, "S4", TRACK),
+    Words(Kind::S4Plus, "S4+", TRACK),
+    Words(Kind::S5, "S5", AMPLIFYING),
+    Words(Kind::S6, "S6", STROBE),
+    Words(Kind::S8, "S8", TRACK),
+    Words(Kind::S8Plus, "S8+", TRACK),
+    Words(Kind::S9, "S9", CORNER),
+];
+
+// The words of a kind.
+fn words_of(kind: Kind) -> Words
+    ensures { result.0 ≡ kind }
+{
+    WORDS[kind::number(kind)]
 }
 
 // ---- read from a line's parts
@@ -164,27 +194,23 @@ impl<'w, 'a> Walk<'w, 'a> {
     }
 }
 
+// Takes a kind's word, and answers all words of the kind.
+fn take_words(parts: &mut Parts) -> Result<Words, NotUnderstood> {
+    let part = parts.part()?;
+    let words = WORDS.iter().find(|words| words.1.as_bytes() == part);
+    words.copied().ok_or(NotUnderstood)
+}
+
 // Takes a kind's word.
 pub fn take_kind(parts: &mut Parts) -> Result<Kind, NotUnderstood> {
-    match parts.part()? {
-        b"Blank" => Ok(Kind::Blank),
-        b"S0" => Ok(Kind::S0),
-        b"S3" => Ok(Kind::S3),
-        b"S4" => Ok(Kind::S4),
-        b"S4+" => Ok(Kind::S4Plus),
-        b"S5" => Ok(Kind::S5),
-        b"S6" => Ok(Kind::S6),
-        b"S8" => Ok(Kind::S8),
-        b"S8+" => Ok(Kind::S8Plus),
-        b"S9" => Ok(Kind::S9),
-        _ => Err(NotUnderstood),
-    }
+    let Words(kind, _, _) = take_words(parts)?;
+    Ok(kind)
 }
 
 // Takes the parts that a message is.
 pub fn take(parts: &mut Parts) -> Result<Message, NotUnderstood> {
-    let kind = take_kind(parts)?;
-    let words = words_of(kind).iter();
+    let Words(kind, _, fields) = take_words(parts)?;
+    let words = fields.iter();
     Walk { parts, words }.message(kind)
 }
 
@@ -261,8 +287,7 @@ fn tell_fields<W: Write>(out: &mut W, words: &[&str], fields: &[Option<i64>]) ->
 }
 
 pub fn tell<W: Write>(out: &mut W, m: Message) -> io::Result<()> {
-    let kind = message::kind_of(m);
-    let words = words_of(kind);
+    let Words(kind, _, words) = words_of(message::kind_of(m));
     tell_kind(out, kind)?;
     match m {
         Message::Blank | Message::S0 => Ok(()),
@@ -277,17 +302,6 @@ pub fn tell<W: Write>(out: &mut W, m: Message) -> io::Result<()> {
 }
 
 pub fn tell_kind<W: Write>(out: &mut W, kind: Kind) -> io::Result<()> {
-    let word: &[u8] = match kind {
-        Kind::Blank => b"Blank",
-        Kind::S0 => b"S0",
-        Kind::S3 => b"S3",
-        Kind::S4 => b"S4",
-        Kind::S4Plus => b"S4+",
-        Kind::S5 => b"S5",
-        Kind::S6 => b"S6",
-        Kind::S8 => b"S8",
-        Kind::S8Plus => b"S8+",
-        Kind::S9 => b"S9",
-    };
-    show::text(out, word)
+    let Words(_, word, _) = words_of(kind);
+    show::text(out, word.as_bytes())
 }
