@@ -5,7 +5,7 @@
 
 use line::{Receiver, Window};
 use octets::OctetReceiver;
-use parts::{NotUnderstood, Parts, Unanswered, show};
+use parts::{Answered, NotUnderstood, Parts, show};
 use refusal::{Refusal, refusal_in};
 use std::io;
 use std::io::Write;
@@ -76,32 +76,30 @@ fn feed<W: Write, R: Fed>(out: &mut W, given: R, run: &[u8]) -> io::Result<()> {
 }
 
 // hear LEVELS
-pub fn hear<W: Write>(out: &mut W, given: Parts, space: &mut [u8]) -> Result<(), Unanswered> {
+pub fn hear<W: Write>(out: &mut W, given: Parts, space: &mut [u8]) -> Answered {
     let levels = given.octets(space)?;
     Ok(feed(out, Receiver::fresh(), levels)?)
 }
 
 // hear_octets OCTETS
-pub fn hear_octets<W: Write>(
-    out: &mut W,
-    given: Parts,
-    space: &mut [u8],
-) -> Result<(), Unanswered> {
+pub fn hear_octets<W: Write>(out: &mut W, given: Parts, space: &mut [u8]) -> Answered {
     let run = given.octets(space)?;
     Ok(feed(out, OctetReceiver::fresh(), run)?)
 }
 
 // The window that the first sixteen octets are, and the octets behind.
 fn window(octets: &[u8]) -> Option<(Window, &[u8])> {
+    let (older, behind) = octets.split_first_chunk()?;
+    let (newer, behind) = behind.split_first_chunk()?;
     let window = Window {
-        older: u64::from_be_bytes(octets.get(..8)?.try_into().ok()?),
-        newer: u64::from_be_bytes(octets.get(8..16)?.try_into().ok()?),
+        older: u64::from_be_bytes(*older),
+        newer: u64::from_be_bytes(*newer),
     };
-    Some((window, octets.get(16..)?))
+    Some((window, behind))
 }
 
 // resume STARTED LAST WINDOW LEVELS
-pub fn resume<W: Write>(out: &mut W, mut given: Parts, space: &mut [u8]) -> Result<(), Unanswered> {
+pub fn resume<W: Write>(out: &mut W, mut given: Parts, space: &mut [u8]) -> Answered {
     let started = given.flag()?;
     let last = given.number()?;
     let (window, levels) = window(given.octets(space)?).ok_or(NotUnderstood)?;
@@ -114,11 +112,7 @@ pub fn resume<W: Write>(out: &mut W, mut given: Parts, space: &mut [u8]) -> Resu
 }
 
 // resume_octets WINDOW OCTETS
-pub fn resume_octets<W: Write>(
-    out: &mut W,
-    given: Parts,
-    space: &mut [u8],
-) -> Result<(), Unanswered> {
+pub fn resume_octets<W: Write>(out: &mut W, given: Parts, space: &mut [u8]) -> Answered {
     let (window, run) = window(given.octets(space)?).ok_or(NotUnderstood)?;
     Ok(feed(out, OctetReceiver { window }, run)?)
 }
@@ -126,7 +120,7 @@ pub fn resume_octets<W: Write>(
 // ---- the sender
 
 // send PREVIOUS LENGTH IMAGE: a buffer of so many octets, each 5, is lent.
-pub fn send<W: Write>(out: &mut W, mut given: Parts, space: &mut [u8]) -> Result<(), Unanswered> {
+pub fn send<W: Write>(out: &mut W, mut given: Parts, space: &mut [u8]) -> Answered {
     let previous = given.number()?;
     let length = given.up_to(256)?;
     let image = given.octets(space)?;
@@ -154,11 +148,7 @@ fn tell_each<W: Write>(out: &mut W, levels: [u8; 129]) -> io::Result<()> {
 }
 
 // wrong_levels PREVIOUS IMAGE: the refusal of sending, and where it is sent a digit for each of 129 levels, the one before the frame first.
-pub fn wrong_levels<W: Write>(
-    out: &mut W,
-    mut given: Parts,
-    space: &mut [u8],
-) -> Result<(), Unanswered> {
+pub fn wrong_levels<W: Write>(out: &mut W, mut given: Parts, space: &mut [u8]) -> Answered {
     let previous = given.number()?;
     let image = given.octets(space)?;
     let mut levels = [previous; 129];

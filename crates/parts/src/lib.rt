@@ -7,8 +7,8 @@ ghost use Rattle.parts.specs.Parts.{parts_of, parts_in, parts_left};
 
 use std::io;
 
-pub mod numbers;
-pub mod octets;
+mod numbers;
+mod octets;
 pub mod show;
 
 // A line that is not understood.
@@ -21,6 +21,9 @@ pub enum Unanswered {
     NotUnderstood,
     Unwritten(io::Error),
 }
+
+// That a line is answered, or why not.
+pub type Answered = Result<(), Unanswered>;
 
 impl From<NotUnderstood> for Unanswered {
     fn from(_: NotUnderstood) -> Unanswered {

@@ -2,7 +2,7 @@
 // a line, all of them before it tells anything, and tells its whole answer.
 
 use link1::{Feet, Refusal, refusal_in};
-use parts::{Parts, Unanswered, show};
+use parts::{Answered, Parts, Unanswered, show};
 use std::fmt::Display;
 use std::io;
 use std::io::Write;
@@ -22,13 +22,13 @@ fn tell_number<W: Write, N: Display + Copy + Drop>(
 // ---- octets alone
 
 // verdict IMAGE
-fn verdict<W: Write>(out: &mut W, given: Parts, space: &mut [u8]) -> Result<(), Unanswered> {
+fn verdict<W: Write>(out: &mut W, given: Parts, space: &mut [u8]) -> Answered {
     let image = given.octets(space)?;
     Ok(show::refusal(out, refusal_in(link1::verdict(image)))?)
 }
 
 // open IMAGE
-fn open<W: Write>(out: &mut W, given: Parts, space: &mut [u8]) -> Result<(), Unanswered> {
+fn open<W: Write>(out: &mut W, given: Parts, space: &mut [u8]) -> Answered {
     let opened = link1::open(given.octets(space)?);
     show::refusal(out, refusal_in(opened))?;
     if let Ok((first, second)) = opened {
@@ -41,7 +41,7 @@ fn open<W: Write>(out: &mut W, given: Parts, space: &mut [u8]) -> Result<(), Una
 }
 
 // track_number TEXT
-fn track_number<W: Write>(out: &mut W, given: Parts, space: &mut [u8]) -> Result<(), Unanswered> {
+fn track_number<W: Write>(out: &mut W, given: Parts, space: &mut [u8]) -> Answered {
     let text = given.octets(space)?;
     Ok(tell_number(out, link1::track_number(text))?)
 }
@@ -49,14 +49,14 @@ fn track_number<W: Write>(out: &mut W, given: Parts, space: &mut [u8]) -> Result
 // ---- numbers, then octets
 
 // search START CAPTURE
-fn search<W: Write>(out: &mut W, mut given: Parts, space: &mut [u8]) -> Result<(), Unanswered> {
+fn search<W: Write>(out: &mut W, mut given: Parts, space: &mut [u8]) -> Answered {
     let start = given.up_to(0x100_0000_0000)?;
     let capture = given.octets(space)?;
     Ok(tell_number(out, link1::search(capture, start))?)
 }
 
 // track_text NUMBER BUFFER
-fn track_text<W: Write>(out: &mut W, mut given: Parts, space: &mut [u8]) -> Result<(), Unanswered> {
+fn track_text<W: Write>(out: &mut W, mut given: Parts, space: &mut [u8]) -> Answered {
     let number = given.number()?;
     let buffer = given.octets(space)?;
     show::refusal(out, refusal_in(link1::track_text(number, buffer)))?;
@@ -64,7 +64,7 @@ fn track_text<W: Write>(out: &mut W, mut given: Parts, space: &mut [u8]) -> Resu
 }
 
 // relay LENGTH by X .. and Y .. of IMAGE: a buffer of so many octets, each 5, is lent.
-fn relay<W: Write>(out: &mut W, mut given: Parts, space: &mut [u8]) -> Result<(), Unanswered> {
+fn relay<W: Write>(out: &mut W, mut given: Parts, space: &mut [u8]) -> Answered {
     let mut xs = [0; 16];
     let mut ys = [0; 16];
     let length = given.up_to(256)?;
@@ -81,14 +81,14 @@ fn relay<W: Write>(out: &mut W, mut given: Parts, space: &mut [u8]) -> Result<()
 // ---- numbers alone
 
 // altitude FEET
-fn altitude<W: Write>(out: &mut W, mut given: Parts) -> Result<(), Unanswered> {
+fn altitude<W: Write>(out: &mut W, mut given: Parts) -> Answered {
     let feet = given.number()?;
     given.end()?;
     Ok(tell_number(out, link1::altitude(Feet(feet)).map(|steps| steps.0))?)
 }
 
 // kind_named LABEL
-fn kind_named<W: Write>(out: &mut W, mut given: Parts) -> Result<(), Unanswered> {
+fn kind_named<W: Write>(out: &mut W, mut given: Parts) -> Answered {
     let label = given.number()?;
     given.end()?;
     let named = link1::kind_named(label);
@@ -101,14 +101,14 @@ fn kind_named<W: Write>(out: &mut W, mut given: Parts) -> Result<(), Unanswered>
 }
 
 // refusal_of NUMBER
-fn refusal_of<W: Write>(out: &mut W, mut given: Parts) -> Result<(), Unanswered> {
+fn refusal_of<W: Write>(out: &mut W, mut given: Parts) -> Answered {
     let number = given.number()?;
     given.end()?;
     Ok(show::refusal(out, Refusal::of(number))?)
 }
 
 // refusal_at NUMBER PLACE
-fn refusal_at<W: Write>(out: &mut W, mut given: Parts) -> Result<(), Unanswered> {
+fn refusal_at<W: Write>(out: &mut W, mut given: Parts) -> Answered {
     let number = given.number()?;
     let place = given.number()?;
     given.end()?;
@@ -116,7 +116,7 @@ fn refusal_at<W: Write>(out: &mut W, mut given: Parts) -> Result<(), Unanswered>
 }
 
 // refusal_inside NUMBER PLACE BIT
-fn refusal_inside<W: Write>(out: &mut W, mut given: Parts) -> Result<(), Unanswered> {
+fn refusal_inside<W: Write>(out: &mut W, mut given: Parts) -> Answered {
     let number = given.number()?;
     let place = given.number()?;
     let bit = given.number()?;
@@ -142,7 +142,7 @@ const REFUSED: [u8; 13] = [
 ];
 
 // numbers: success, and those.
-fn tell_numbers<W: Write>(out: &mut W, given: Parts) -> Result<(), Unanswered> {
+fn tell_numbers<W: Write>(out: &mut W, given: Parts) -> Answered {
     given.end()?;
     show::first_number(out, link1::SUCCESS)?;
     for number in REFUSED {
@@ -154,7 +154,7 @@ fn tell_numbers<W: Write>(out: &mut W, given: Parts) -> Result<(), Unanswered> {
 // ---- messages
 
 // close MESSAGE MESSAGE BUFFER
-fn close<W: Write>(out: &mut W, mut given: Parts, space: &mut [u8]) -> Result<(), Unanswered> {
+fn close<W: Write>(out: &mut W, mut given: Parts, space: &mut [u8]) -> Answered {
     let first = message_words::take(&mut given)?;
     let second = message_words::take(&mut given)?;
     let buffer = given.octets(space)?;
@@ -163,21 +163,21 @@ fn close<W: Write>(out: &mut W, mut given: Parts, space: &mut [u8]) -> Result<()
 }
 
 // kind_of MESSAGE
-fn kind_of<W: Write>(out: &mut W, mut given: Parts) -> Result<(), Unanswered> {
+fn kind_of<W: Write>(out: &mut W, mut given: Parts) -> Answered {
     let message = message_words::take(&mut given)?;
     given.end()?;
     Ok(message_words::tell_kind(out, link1::kind_of(message))?)
 }
 
 // label KIND
-fn label<W: Write>(out: &mut W, mut given: Parts) -> Result<(), Unanswered> {
+fn label<W: Write>(out: &mut W, mut given: Parts) -> Answered {
     let kind = message_words::take_kind(&mut given)?;
     given.end()?;
     Ok(show::first_number(out, link1::label(kind))?)
 }
 
 // The call that a line's first part names, and its answer.
-pub fn call<W: Write>(out: &mut W, line: &[u8], space: &mut [u8]) -> Result<(), Unanswered> {
+pub fn call<W: Write>(out: &mut W, line: &[u8], space: &mut [u8]) -> Answered {
     let mut given = Parts::of(line);
     match given.part()? {
         b"verdict" => verdict(out, given, space),
