@@ -1,12 +1,11 @@
-// The calls of the two receivers and of the sender, each with its arguments from a line's parts and its whole answer told; and
-// `wrong_levels`, which makes several of them.
+// The calls of the two receivers and of the sender, and `wrong_levels`, which makes several of them. Each takes its arguments from what is
+// left of a line, all of them before it tells anything, and tells its whole answer.
 
 #![tactic(auto)]
 
 use line::{Receiver, Window};
 use octets::OctetReceiver;
-use parts::octets::gather;
-use parts::{numbers, show};
+use parts::{Answered, NotUnderstood, Parts, show};
 use refusal::{Refusal, refusal_in};
 use std::io;
 use std::io::Write;
@@ -15,11 +14,6 @@ use std::io::Write;
 
 // The octets where no frame is handed over.
 const NONE: [u8; 16] = [0; 16];
-
-// The sixteen octets of a window, which no public call gives.
-fn image_of(window: Window) -> [u8; 16] {
-    ((u128::from(window.older) << 64) | u128::from(window.newer)).to_be_bytes()
-}
 
 // A receiver that is fed octets, each a level or eight bits.
 trait Fed: Copy {
@@ -44,7 +38,7 @@ impl Fed for Receiver {
     // state STARTED LAST OCTETS
     fn tell_state<W: Write>(self, out: &mut W) -> io::Result<()> {
         write!(out, "state {} {}", u8::from(self.started), self.last)?;
-        show::octets(out, &image_of(self.window))
+        show::octets(out, &line::image(self.window))
     }
 }
 
@@ -63,7 +57,7 @@ impl Fed for OctetReceiver {
     // state OCTETS
     fn tell_state<W: Write>(self, out: &mut W) -> io::Result<()> {
         show::text(out, b"state")?;
-        show::octets(out, &image_of(self.window))
+        show::octets(out, &line::image(self.window))
     }
 }
 
@@ -76,81 +70,70 @@ fn feed_all<W: Write, R: Fed>(out: &mut W, given: R, run: &[u8]) -> io::Result<R
     Ok(receiver)
 }
 
-// Feeds the receiver and the run that a line gives, if it gives them, and tells the state as well.
-fn feed<W: Write, R: Fed>(out: &mut W, given: Option<(R, &[u8])>) -> io::Result<()> {
-    match given {
-        Some((receiver, run)) => feed_all(out, receiver, run)?.tell_state(out),
-        None => show::refuse(out),
-    }
+// Feeds a run of octets, and tells the state as well.
+fn feed<W: Write, R: Fed>(out: &mut W, given: R, run: &[u8]) -> io::Result<()> {
+    feed_all(out, given, run)?.tell_state(out)
 }
 
 // hear LEVELS
-pub fn hear<W: Write>(out: &mut W, line: &[u8], space: &mut [u8]) -> io::Result<()> {
-    let given = gather(line, 1, space).map(|levels| (Receiver::fresh(), &*levels));
-    feed(out, given)
+pub fn hear<W: Write>(out: &mut W, given: Parts, space: &mut [u8]) -> Answered {
+    let levels = given.octets(space)?;
+    Ok(feed(out, Receiver::fresh(), levels)?)
 }
 
 // hear_octets OCTETS
-pub fn hear_octets<W: Write>(out: &mut W, line: &[u8], space: &mut [u8]) -> io::Result<()> {
-    let given = gather(line, 1, space).map(|run| (OctetReceiver::fresh(), &*run));
-    feed(out, given)
+pub fn hear_octets<W: Write>(out: &mut W, given: Parts, space: &mut [u8]) -> Answered {
+    let run = given.octets(space)?;
+    Ok(feed(out, OctetReceiver::fresh(), run)?)
 }
 
-// The window that the sixteen octets from part k on are, and the octets behind.
-fn window<'a>(line: &[u8], k: usize, space: &'a mut [u8]) -> Option<(Window, &'a [u8])> {
-    let body: &'a [u8] = gather(line, k, space)?;
+// The window that the first sixteen octets are, and the octets behind.
+fn window(octets: &[u8]) -> Option<(Window, &[u8])> {
+    let (older, behind) = octets.split_first_chunk()?;
+    let (newer, behind) = behind.split_first_chunk()?;
     let window = Window {
-        older: u64::from_be_bytes(body.get(..8)?.try_into().ok()?),
-        newer: u64::from_be_bytes(body.get(8..16)?.try_into().ok()?),
+        older: u64::from_be_bytes(*older),
+        newer: u64::from_be_bytes(*newer),
     };
-    Some((window, body.get(16..)?))
+    Some((window, behind))
 }
 
-// The receiver that STARTED LAST WINDOW say, and the levels behind.
-fn resumed<'a>(line: &[u8], space: &'a mut [u8]) -> Option<(Receiver, &'a [u8])> {
-    let started = numbers::bool_at(line, 1, 0)?;
-    let last = numbers::at(line, 2, 0)?;
-    let (window, levels) = window(line, 3, space)?;
+// resume STARTED LAST WINDOW LEVELS
+pub fn resume<W: Write>(out: &mut W, mut given: Parts, space: &mut [u8]) -> Answered {
+    let started = given.flag()?;
+    let last = given.number()?;
+    let (window, levels) = window(given.octets(space)?).ok_or(NotUnderstood)?;
     let receiver = Receiver {
         started,
         last,
         window,
     };
-    Some((receiver, levels))
-}
-
-// resume STARTED LAST WINDOW LEVELS
-pub fn resume<W: Write>(out: &mut W, line: &[u8], space: &mut [u8]) -> io::Result<()> {
-    feed(out, resumed(line, space))
+    Ok(feed(out, receiver, levels)?)
 }
 
 // resume_octets WINDOW OCTETS
-pub fn resume_octets<W: Write>(out: &mut W, line: &[u8], space: &mut [u8]) -> io::Result<()> {
-    let given = window(line, 1, space).map(|(window, run)| (OctetReceiver { window }, run));
-    feed(out, given)
+pub fn resume_octets<W: Write>(out: &mut W, given: Parts, space: &mut [u8]) -> Answered {
+    let (window, run) = window(given.octets(space)?).ok_or(NotUnderstood)?;
+    Ok(feed(out, OctetReceiver { window }, run)?)
 }
 
 // ---- the sender
 
 // send PREVIOUS LENGTH IMAGE: a buffer of so many octets, each 5, is lent.
-pub fn send<W: Write>(out: &mut W, line: &[u8], space: &mut [u8]) -> io::Result<()> {
-    let (Some(previous), Some(length), Some(image)) = (
-        numbers::at(line, 1, 0),
-        numbers::up_to(line, 2, 256),
-        gather(line, 3, space),
-    ) else {
-        return show::refuse(out);
-    };
+pub fn send<W: Write>(out: &mut W, mut given: Parts, space: &mut [u8]) -> Answered {
+    let previous = given.number()?;
+    let length = given.up_to(256)?;
+    let image = given.octets(space)?;
     let mut buffer = [5u8; 256];
     let levels = &mut buffer[..length];
     show::refusal(out, refusal_in(sending::send(image, previous, levels)))?;
-    show::levels(out, levels)
+    Ok(show::levels(out, levels)?)
 }
 
 // The verdict on the last 128 bits that a fresh receiver decodes.
 fn tell_verdict<W: Write>(out: &mut W, levels: &[u8]) -> io::Result<()> {
     let receiver = feed_all(out, Receiver::fresh(), levels)?;
-    let verdict = frame::verdict(&image_of(receiver.window));
+    let verdict = frame::verdict(&line::image(receiver.window));
     show::first_number(out, refusal_in(verdict).number)
 }
 
@@ -165,10 +148,9 @@ fn tell_each<W: Write>(out: &mut W, levels: [u8; 129]) -> io::Result<()> {
 }
 
 // wrong_levels PREVIOUS IMAGE: the refusal of sending, and where it is sent a digit for each of 129 levels, the one before the frame first.
-pub fn wrong_levels<W: Write>(out: &mut W, line: &[u8], space: &mut [u8]) -> io::Result<()> {
-    let (Some(previous), Some(image)) = (numbers::at(line, 1, 0), gather(line, 2, space)) else {
-        return show::refuse(out);
-    };
+pub fn wrong_levels<W: Write>(out: &mut W, mut given: Parts, space: &mut [u8]) -> Answered {
+    let previous = given.number()?;
+    let image = given.octets(space)?;
     let mut levels = [previous; 129];
     let sent = sending::send(image, previous, &mut levels[1..]);
     show::refusal(out, refusal_in(sent))?;

@@ -2,97 +2,122 @@
 
 #![tactic(auto)]
 
-use kind::Kind;
+ghost use Rattle.std.specs.Prelude.{◌≡◌};
+
+use kind::{KINDS, Kind};
 use message::{Amplifying, Corner, Iff, Message, Strobe, Track};
-use parts::{numbers, show};
+use parts::{NotUnderstood, Parts, show};
 use std::io;
 use std::io::Write;
+use std::slice::Iter;
 use units::{AltSteps, LinkSteps};
 
-// The words of a kind's fields.
-fn words_of(kind: Kind) -> &'static [&'static str] {
-    match kind {
-        Kind::Blank | Kind::S0 => &[],
-        Kind::S3 => &[
-            "mode3a",
-            "request",
-            "emergency",
-            "validation",
-            "mode1",
-            "mode2",
-        ],
-        Kind::S4 | Kind::S4Plus | Kind::S8 | Kind::S8Plus => &["number", "quality", "x", "y"],
-        Kind::S5 => &[
-            "altitude",
-            "strength",
-            "identification",
-            "special23",
-            "simulated",
-            "drop",
-            "traffic",
-            "vx",
-            "allocation",
-            "special39",
-            "vy",
-        ],
-        Kind::S6 => &[
-            "acquisition",
-            "width",
-            "strobe_type",
-            "simulated",
-            "azimuth",
-            "site",
-            "sensor",
-            "number",
-            "elevation",
-            "age",
-        ],
-        Kind::S9 => &["area", "site", "number", "drop", "x", "y"],
-    }
+// A kind, its word, and the words of its fields in the order of its struct.
+#[derive(Clone, Copy)]
+struct Words(Kind, &'static str, &'static [&'static str]);
+
+// The fields of S.3.
+const IFF: &[&str] = &[
+    "mode3a",
+    "request",
+    "emergency",
+    "validation",
+    "mode1",
+    "mode2",
+];
+
+// S.4, S.4+, S.8 and S.8+.
+const TRACK: &[&str] = &["number", "quality", "x", "y"];
+
+// S.5.
+const AMPLIFYING: &[&str] = &[
+    "altitude",
+    "strength",
+    "identification",
+    "special23",
+    "simulated",
+    "drop",
+    "traffic",
+    "vx",
+    "allocation",
+    "special39",
+    "vy",
+];
+
+// S.6.
+const STROBE: &[&str] = &[
+    "acquisition",
+    "width",
+    "strobe_type",
+    "simulated",
+    "azimuth",
+    "site",
+    "sensor",
+    "number",
+    "elevation",
+    "age",
+];
+
+// S.9.
+const CORNER: &[&str] = &["area", "site", "number", "drop", "x", "y"];
+
+// The words in the order of the kinds' numbers.
+const WORDS: [Words; KINDS] = [
+    Words(Kind::Blank, "Blank", &[]),
+    Words(Kind::S0, "S0", &[]),
+    Words(Kind::S3, "S3", IFF),
+    Words(Kind::S4, "S4", TRACK),
+    Words(Kind::S4Plus, "S4+", TRACK),
+    Words(Kind::S5, "S5", AMPLIFYING),
+    Words(Kind::S6, "S6", STROBE),
+    Words(Kind::S8, "S8", TRACK),
+    Words(Kind::S8Plus, "S8+", TRACK),
+    Words(Kind::S9, "S9", CORNER),
+];
+
+// The words of a kind.
+fn words_of(kind: Kind) -> Words
+    ensures { result.0 ≡ kind }
+{
+    WORDS[kind::number(kind)]
 }
 
 // ---- read from a line's parts
 
-// A line, the part of it that comes next, and the words of the fields with how many have passed.
-#[derive(Clone, Copy)]
-struct Walk<'a> {
-    line: &'a [u8],
-    next: usize,
-    words: &'static [&'static str],
-    passed: usize,
+// The parts of a line that a message's fields are, and the words of those that come.
+#[derive(Drop)]
+struct Walk<'w, 'a> {
+    parts: &'w mut Parts<'a>,
+    words: Iter<'static, &'static str>,
 }
 
-impl<'a> Walk<'a> {
-    // Passes a field, and answers the part that its number is.
-    fn pass(&mut self) -> Option<usize> {
-        let word = self.words.get(self.passed)?;
-        let part = self.next;
-        self.passed = self.passed.wrapping_add(1);
-        self.next = part.wrapping_add(2);
-        parts::says(self.line, part, word.as_bytes()).then_some(part.wrapping_add(1))
+impl<'w, 'a> Walk<'w, 'a> {
+    // Takes the word of the field that comes.
+    fn word(&mut self) -> Result<(), NotUnderstood> {
+        let word = self.words.next().ok_or(NotUnderstood)?;
+        self.parts.word(word.as_bytes())
     }
 
-    fn field<T: TryFrom<i64>>(&mut self) -> Option<T>
+    fn field<T: TryFrom<i64>>(&mut self) -> Result<T, NotUnderstood>
     where
         T::Error: Drop,
     {
-        numbers::at(self.line, self.pass()?, 0)
+        self.word()?;
+        self.parts.number()
     }
 
-    fn flag(&mut self) -> Option<bool> {
-        numbers::bool_at(self.line, self.pass()?, 0)
+    fn flag(&mut self) -> Result<bool, NotUnderstood> {
+        self.word()?;
+        self.parts.flag()
     }
 
-    fn mode(&mut self) -> Option<Option<u16>> {
-        let part = self.pass()?;
-        if parts::says(self.line, part, b"absent") {
-            return Some(None);
-        }
-        numbers::at(self.line, part, 0).map(Some)
+    fn mode(&mut self) -> Result<Option<u16>, NotUnderstood> {
+        self.word()?;
+        self.parts.number_or(b"absent")
     }
 
-    fn iff(&mut self) -> Option<Iff> {
-        Some(Iff {
+    fn iff(&mut self) -> Result<Iff, NotUnderstood> {
+        Ok(Iff {
             mode3a: self.mode()?,
             request: self.field()?,
             emergency: self.flag()?,
@@ -102,8 +127,8 @@ impl<'a> Walk<'a> {
         })
     }
 
-    fn track(&mut self) -> Option<Track> {
-        Some(Track {
+    fn track(&mut self) -> Result<Track, NotUnderstood> {
+        Ok(Track {
             number: self.field()?,
             quality: self.field()?,
             x: LinkSteps(self.field()?),
@@ -111,8 +136,8 @@ impl<'a> Walk<'a> {
         })
     }
 
-    fn amplifying(&mut self) -> Option<Amplifying> {
-        Some(Amplifying {
+    fn amplifying(&mut self) -> Result<Amplifying, NotUnderstood> {
+        Ok(Amplifying {
             altitude: AltSteps(self.field()?),
             strength: self.field()?,
             identification: self.field()?,
@@ -127,8 +152,8 @@ impl<'a> Walk<'a> {
         })
     }
 
-    fn strobe(&mut self) -> Option<Strobe> {
-        Some(Strobe {
+    fn strobe(&mut self) -> Result<Strobe, NotUnderstood> {
+        Ok(Strobe {
             acquisition: self.flag()?,
             width: self.field()?,
             strobe_type: self.field()?,
@@ -142,8 +167,8 @@ impl<'a> Walk<'a> {
         })
     }
 
-    fn corner(&mut self) -> Option<Corner> {
-        Some(Corner {
+    fn corner(&mut self) -> Result<Corner, NotUnderstood> {
+        Ok(Corner {
             area: self.field()?,
             site: self.field()?,
             number: self.field()?,
@@ -153,60 +178,40 @@ impl<'a> Walk<'a> {
         })
     }
 
-    fn message(&mut self, kind: Kind) -> Option<Message> {
+    fn message(&mut self, kind: Kind) -> Result<Message, NotUnderstood> {
         match kind {
-            Kind::Blank => Some(Message::Blank),
-            Kind::S0 => Some(Message::S0),
-            Kind::S3 => Some(Message::S3(self.iff()?)),
-            Kind::S4 => Some(Message::S4(self.track()?)),
-            Kind::S4Plus => Some(Message::S4Plus(self.track()?)),
-            Kind::S5 => Some(Message::S5(self.amplifying()?)),
-            Kind::S6 => Some(Message::S6(self.strobe()?)),
-            Kind::S8 => Some(Message::S8(self.track()?)),
-            Kind::S8Plus => Some(Message::S8Plus(self.track()?)),
-            Kind::S9 => Some(Message::S9(self.corner()?)),
+            Kind::Blank => Ok(Message::Blank),
+            Kind::S0 => Ok(Message::S0),
+            Kind::S3 => Ok(Message::S3(self.iff()?)),
+            Kind::S4 => Ok(Message::S4(self.track()?)),
+            Kind::S4Plus => Ok(Message::S4Plus(self.track()?)),
+            Kind::S5 => Ok(Message::S5(self.amplifying()?)),
+            Kind::S6 => Ok(Message::S6(self.strobe()?)),
+            Kind::S8 => Ok(Message::S8(self.track()?)),
+            Kind::S8Plus => Ok(Message::S8Plus(self.track()?)),
+            Kind::S9 => Ok(Message::S9(self.corner()?)),
         }
     }
 }
 
-// The kind whose word is part k.
-pub fn take_kind(line: &[u8], k: usize) -> Option<Kind> {
-    match parts::part(line, k)? {
-        b"Blank" => Some(Kind::Blank),
-        b"S0" => Some(Kind::S0),
-        b"S3" => Some(Kind::S3),
-        b"S4" => Some(Kind::S4),
-        b"S4+" => Some(Kind::S4Plus),
-        b"S5" => Some(Kind::S5),
-        b"S6" => Some(Kind::S6),
-        b"S8" => Some(Kind::S8),
-        b"S8+" => Some(Kind::S8Plus),
-        b"S9" => Some(Kind::S9),
-        _ => None,
-    }
+// Takes a kind's word, and answers all words of the kind.
+fn take_words(parts: &mut Parts) -> Result<Words, NotUnderstood> {
+    let part = parts.part()?;
+    let words = WORDS.iter().find(|words| words.1.as_bytes() == part);
+    words.copied().ok_or(NotUnderstood)
 }
 
-// A message that a line says, and the part behind it.
-#[derive(Clone, Copy)]
-pub struct Said {
-    pub message: Message,
-    pub next: usize,
+// Takes a kind's word.
+pub fn take_kind(parts: &mut Parts) -> Result<Kind, NotUnderstood> {
+    let Words(kind, _, _) = take_words(parts)?;
+    Ok(kind)
 }
 
-// The message that the parts from k on make.
-pub fn take(line: &[u8], k: usize) -> Option<Said> {
-    let kind = take_kind(line, k)?;
-    let mut walk = Walk {
-        line,
-        next: k.wrapping_add(1),
-        words: words_of(kind),
-        passed: 0,
-    };
-    let message = walk.message(kind)?;
-    Some(Said {
-        message,
-        next: walk.next,
-    })
+// Takes the parts that a message is.
+pub fn take(parts: &mut Parts) -> Result<Message, NotUnderstood> {
+    let Words(kind, _, fields) = take_words(parts)?;
+    let words = fields.iter();
+    Walk { parts, words }.message(kind)
 }
 
 // ---- told
@@ -282,8 +287,7 @@ fn tell_fields<W: Write>(out: &mut W, words: &[&str], fields: &[Option<i64>]) ->
 }
 
 pub fn tell<W: Write>(out: &mut W, m: Message) -> io::Result<()> {
-    let kind = message::kind_of(m);
-    let words = words_of(kind);
+    let Words(kind, _, words) = words_of(message::kind_of(m));
     tell_kind(out, kind)?;
     match m {
         Message::Blank | Message::S0 => Ok(()),
@@ -298,17 +302,6 @@ pub fn tell<W: Write>(out: &mut W, m: Message) -> io::Result<()> {
 }
 
 pub fn tell_kind<W: Write>(out: &mut W, kind: Kind) -> io::Result<()> {
-    let word: &[u8] = match kind {
-        Kind::Blank => b"Blank",
-        Kind::S0 => b"S0",
-        Kind::S3 => b"S3",
-        Kind::S4 => b"S4",
-        Kind::S4Plus => b"S4+",
-        Kind::S5 => b"S5",
-        Kind::S6 => b"S6",
-        Kind::S8 => b"S8",
-        Kind::S8Plus => b"S8+",
-        Kind::S9 => b"S9",
-    };
-    show::text(out, word)
+    let Words(_, word, _) = words_of(kind);
+    show::text(out, word.as_bytes())
 }

@@ -1,9 +1,10 @@
 // Numbers of a line: decimal, 64 bits each.
 
 ghost use Rattle.std.specs.Fmt.{signed_decimal};
-ghost use Rattle.std.specs.Prelude.{◌≡◌, ◌-◌, ◌≤◌, IfSome, IsTrue, length};
+ghost use Rattle.std.specs.Prelude.{◌≡◌, ◌≤◌, IfOk, IfSome, IsTrue, OnOk, length};
+ghost use Rattle.parts.specs.Parts.{parts_left, place_of, behind};
 
-use crate::part;
+use crate::{NotUnderstood, Parts};
 use itoa::Buffer;
 
 // Whether a text is a number as it would be told.
@@ -22,42 +23,85 @@ pub fn of(text: &[u8]) -> Option<i64>
     says_number(text, n).then_some(n)
 }
 
-// The number of part k, if it is one.
-pub fn read(line: &[u8], k: usize) -> Option<i64> {
-    of(part(line, k)?)
-}
-
-// The number of part k + i, if it is one of the type.
-pub fn at<T: TryFrom<i64>>(line: &[u8], k: usize, i: usize) -> Option<T>
+// The number of a type that a text is.
+fn read<T: TryFrom<i64>>(text: &[u8]) -> Result<T, NotUnderstood>
 where
     T::Error: Drop,
 {
-    T::try_from(read(line, k.wrapping_add(i))?).ok()
+    let n = of(text).ok_or(NotUnderstood)?;
+    T::try_from(n).ok().ok_or(NotUnderstood)
 }
 
-// The same, 0 or 1.
-pub fn bool_at(line: &[u8], k: usize, i: usize) -> Option<bool> {
-    match at::<u8>(line, k, i)? {
-        0 => Some(false),
-        1 => Some(true),
-        _ => None,
+impl<'a> Parts<'a> {
+    // Takes a number of the type.
+    pub fn number<T: TryFrom<i64>>(&mut self) -> Result<T, NotUnderstood>
+    where
+        T::Error: Drop,
+        ensures { OnOk result (parts_left self.new ≡ behind (parts_left self.old)) }
+    {
+        read(self.part()?)
     }
-}
 
-// The number of part k, from 0 to the most that is taken.
-pub fn up_to(line: &[u8], k: usize, most: usize) -> Option<usize>
-    ensures { IfSome result (λ n. n ≤ most) }
-{
-    at::<usize>(line, k, 0).filter(|n| *n <= most)
-}
-
-// The numbers of the parts from `from` up to `to`, put into the space.
-pub fn list<'a>(line: &[u8], from: usize, to: usize, space: &'a mut [i32]) -> Option<&'a [i32]>
-    ensures { IfSome result (λ numbers. length numbers.now ≡ to - from) }
-{
-    let numbers = space.get_mut(..to.checked_sub(from)?)?;
-    for (i, n) in numbers.iter_mut().enumerate() {
-        *n = at(line, from, i)?;
+    // Takes a number of the type, or a word in its place.
+    pub fn number_or<T: TryFrom<i64>>(&mut self, word: &[u8]) -> Result<Option<T>, NotUnderstood>
+    where
+        T::Error: Drop,
+        ensures { OnOk result (parts_left self.new ≡ behind (parts_left self.old)) }
+    {
+        let part = self.part()?;
+        if part == word {
+            return Ok(None);
+        }
+        Ok(Some(read(part)?))
     }
-    Some(numbers)
+
+    // Takes a number that is 0 or 1.
+    pub fn flag(&mut self) -> Result<bool, NotUnderstood>
+        ensures { OnOk result (parts_left self.new ≡ behind (parts_left self.old)) }
+    {
+        match self.number::<u8>()? {
+            0 => Ok(false),
+            1 => Ok(true),
+            _ => Err(NotUnderstood),
+        }
+    }
+
+    // Takes a number from 0 to the most that is taken.
+    pub fn up_to(&mut self, most: usize) -> Result<usize, NotUnderstood>
+        ensures most { IfOk result (λ n. n ≤ most) }
+        ensures passed { OnOk result (parts_left self.new ≡ behind (parts_left self.old)) }
+    {
+        let n = self.number()?;
+        if n > most {
+            return Err(NotUnderstood);
+        }
+        Ok(n)
+    }
+
+    // How many parts come before a word.
+    fn before(self, word: &[u8]) -> Result<usize, NotUnderstood>
+        ensures { IfOk result (λ n. n ≡ place_of word.now (parts_left self.entry)) }
+    {
+        let left = self.left.ok_or(NotUnderstood)?;
+        let place = left.split(|c| *c == b' ').position(|part| part == word);
+        place.ok_or(NotUnderstood)
+    }
+
+    // Takes a word, and the numbers between it and another word, which comes next; they are put into the space.
+    pub fn list<'s>(
+        &mut self,
+        first: &[u8],
+        last: &[u8],
+        space: &'s mut [i32],
+    ) -> Result<&'s [i32], NotUnderstood>
+        ensures { IfOk result (λ numbers. length numbers.now ≡ place_of last.now (behind (parts_left self.old))) }
+    {
+        self.word(first)?;
+        let count = self.before(last)?;
+        let numbers = space.get_mut(..count).ok_or(NotUnderstood)?;
+        for n in numbers.iter_mut() {
+            *n = self.number()?;
+        }
+        Ok(numbers)
+    }
 }

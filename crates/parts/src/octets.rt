@@ -2,7 +2,7 @@
 
 ghost use Rattle.std.specs.Prelude.{◌<◌, IfSome};
 
-use crate::numbers;
+use crate::{NotUnderstood, Parts, numbers};
 
 // The most times, and the most octets.
 const MOST: i64 = 65664;
@@ -23,73 +23,84 @@ fn digit(c: u8) -> Option<u8> {
     nibble(c).filter(|d| *d < 10)
 }
 
-// Puts an octet at an index, and answers the index behind it.
-fn put(space: &mut [u8], at: usize, x: u8) -> Option<usize> {
-    *space.get_mut(at)? = x;
-    Some(at.wrapping_add(1))
+// A lent space, and how many octets are in it.
+#[derive(Drop)]
+struct Gathered<'a> {
+    space: &'a mut [u8],
+    count: usize,
 }
 
-// Puts the octet that each character of a text stands for.
-fn put_each<F: Fn(u8) -> Option<u8> + Drop>(
-    text: &[u8],
-    space: &mut [u8],
-    given: usize,
-    value: F,
-) -> Option<usize>
-    requires { F.IsAlwaysCallable value }
-{
-    let mut at = given;
-    for c in text {
-        at = put(space, at, value(*c)?)?;
+impl<'a> Gathered<'a> {
+    fn put(&mut self, x: u8) -> Option<()> {
+        *self.space.get_mut(self.count)? = x;
+        self.count = self.count.wrapping_add(1);
+        Some(())
     }
-    Some(at)
+
+    // The octet that each character of a text stands for.
+    fn put_each<F: Fn(u8) -> Option<u8> + Drop>(&mut self, text: &[u8], value: F) -> Option<()>
+        requires { F.IsAlwaysCallable value }
+    {
+        for c in text {
+            self.put(value(*c)?)?;
+        }
+        Some(())
+    }
+
+    // Two hexadecimal digits for each octet.
+    fn put_pairs(&mut self, digits: &[u8]) -> Option<()> {
+        for pair in digits.chunks(2) {
+            let [high, low] = pair else {
+                return None;
+            };
+            self.put(nibble(*high)? * 16 + nibble(*low)?)?;
+        }
+        Some(())
+    }
+
+    // A number of times for the last of the octets that a part has put, from an index on; it stands once already.
+    fn repeat(&mut self, times: &[u8], from: usize) -> Option<()> {
+        let to = self.count;
+        let last = *self.space.get(from..to)?.last()?;
+        let times = numbers::of(times).filter(|n| (1..=MOST).contains(n))?;
+        for _ in 1..times {
+            self.put(last)?;
+        }
+        Some(())
+    }
+
+    // The octets of a part.
+    fn put_part(&mut self, part: &[u8]) -> Option<()> {
+        let from = self.count;
+        let (mark, text) = part.split_first()?;
+        let mut pieces = text.splitn(2, |c| *c == b'*');
+        let digits = pieces.next()?;
+        match mark {
+            b'=' => return self.put_each(text, Some),
+            b':' => self.put_each(digits, digit)?,
+            b'x' => self.put_pairs(digits)?,
+            _ => return None,
+        }
+        match pieces.next() {
+            Some(times) => self.repeat(times, from),
+            None => Some(()),
+        }
+    }
 }
 
-// Two hexadecimal digits for each octet.
-fn put_pairs(digits: &[u8], space: &mut [u8], given: usize) -> Option<usize> {
-    let mut at = given;
-    for pair in digits.chunks(2) {
-        let [high, low] = pair else {
-            return None;
-        };
-        at = put(space, at, nibble(*high)? * 16 + nibble(*low)?)?;
+// Puts the octets of each part into the space, and answers them.
+fn gather<'s>(parts: Parts, space: &'s mut [u8]) -> Option<&'s mut [u8]> {
+    let mut gathered = Gathered { space, count: 0 };
+    for part in parts {
+        gathered.put_part(part)?;
     }
-    Some(at)
+    let Gathered { space, count } = gathered;
+    space.get_mut(..count)
 }
 
-// A number of times for the last of the octets that a part has put; it stands once already.
-fn repeat(times: &[u8], space: &mut [u8], from: usize, given: usize) -> Option<usize> {
-    let last = *space.get(from..given)?.last()?;
-    let times = numbers::of(times).filter(|n| (1..=MOST).contains(n))?;
-    let mut at = given;
-    for _ in 1..times {
-        at = put(space, at, last)?;
+impl<'a> Parts<'a> {
+    // The octets of all parts that are left, put into the space.
+    pub fn octets<'s>(self, space: &'s mut [u8]) -> Result<&'s mut [u8], NotUnderstood> {
+        gather(self, space).ok_or(NotUnderstood)
     }
-    Some(at)
-}
-
-// Puts the octets of a part from an index on, and answers the index behind them.
-fn put_part(part: &[u8], space: &mut [u8], from: usize) -> Option<usize> {
-    let (mark, text) = part.split_first()?;
-    let mut pieces = text.splitn(2, |c| *c == b'*');
-    let digits = pieces.next()?;
-    let at = match mark {
-        b'=' => return put_each(text, space, from, Some),
-        b':' => put_each(digits, space, from, digit)?,
-        b'x' => put_pairs(digits, space, from)?,
-        _ => return None,
-    };
-    match pieces.next() {
-        Some(times) => repeat(times, space, from, at),
-        None => Some(at),
-    }
-}
-
-// Puts the octets of the parts from k on into the space, and answers them, if they are understood.
-pub fn gather<'a>(line: &[u8], k: usize, space: &'a mut [u8]) -> Option<&'a mut [u8]> {
-    let mut at = 0;
-    for part in line.split(|c| *c == b' ').skip(k) {
-        at = put_part(part, space, at)?;
-    }
-    space.get_mut(..at)
 }

@@ -1,9 +1,8 @@
-// The calls of the public list, each with its arguments from a line's parts and its whole answer told. Those of the receivers and the
-// sender stand in `line_calls`.
+// The calls of the public list; those of the receivers and the sender stand in `line_calls`. Each takes its arguments from what is left of
+// a line, all of them before it tells anything, and tells its whole answer.
 
-use link1::{Feet, Message, Refusal, refusal_in};
-use parts::octets::gather;
-use parts::{numbers, show};
+use link1::{Feet, Refusal, refusal_in};
+use parts::{Answered, Parts, Unanswered, show};
 use std::fmt::Display;
 use std::io;
 use std::io::Write;
@@ -23,19 +22,14 @@ fn tell_number<W: Write, N: Display + Copy + Drop>(
 // ---- octets alone
 
 // verdict IMAGE
-fn verdict<W: Write>(out: &mut W, line: &[u8], space: &mut [u8]) -> io::Result<()> {
-    match gather(line, 1, space) {
-        Some(image) => show::refusal(out, refusal_in(link1::verdict(image))),
-        None => show::refuse(out),
-    }
+fn verdict<W: Write>(out: &mut W, given: Parts, space: &mut [u8]) -> Answered {
+    let image = given.octets(space)?;
+    Ok(show::refusal(out, refusal_in(link1::verdict(image)))?)
 }
 
 // open IMAGE
-fn open<W: Write>(out: &mut W, line: &[u8], space: &mut [u8]) -> io::Result<()> {
-    let Some(image) = gather(line, 1, space) else {
-        return show::refuse(out);
-    };
-    let opened = link1::open(image);
+fn open<W: Write>(out: &mut W, given: Parts, space: &mut [u8]) -> Answered {
+    let opened = link1::open(given.octets(space)?);
     show::refusal(out, refusal_in(opened))?;
     if let Ok((first, second)) = opened {
         show::text(out, b" ")?;
@@ -47,81 +41,56 @@ fn open<W: Write>(out: &mut W, line: &[u8], space: &mut [u8]) -> io::Result<()> 
 }
 
 // track_number TEXT
-fn track_number<W: Write>(out: &mut W, line: &[u8], space: &mut [u8]) -> io::Result<()> {
-    match gather(line, 1, space) {
-        Some(text) => tell_number(out, link1::track_number(text)),
-        None => show::refuse(out),
-    }
+fn track_number<W: Write>(out: &mut W, given: Parts, space: &mut [u8]) -> Answered {
+    let text = given.octets(space)?;
+    Ok(tell_number(out, link1::track_number(text))?)
 }
 
 // ---- numbers, then octets
 
 // search START CAPTURE
-fn search<W: Write>(out: &mut W, line: &[u8], space: &mut [u8]) -> io::Result<()> {
-    let (Some(start), Some(capture)) = (
-        numbers::up_to(line, 1, 0x100_0000_0000),
-        gather(line, 2, space),
-    ) else {
-        return show::refuse(out);
-    };
-    tell_number(out, link1::search(capture, start))
+fn search<W: Write>(out: &mut W, mut given: Parts, space: &mut [u8]) -> Answered {
+    let start = given.up_to(0x100_0000_0000)?;
+    let capture = given.octets(space)?;
+    Ok(tell_number(out, link1::search(capture, start))?)
 }
 
 // track_text NUMBER BUFFER
-fn track_text<W: Write>(out: &mut W, line: &[u8], space: &mut [u8]) -> io::Result<()> {
-    let (Some(number), Some(buffer)) = (numbers::at(line, 1, 0), gather(line, 2, space)) else {
-        return show::refuse(out);
-    };
+fn track_text<W: Write>(out: &mut W, mut given: Parts, space: &mut [u8]) -> Answered {
+    let number = given.number()?;
+    let buffer = given.octets(space)?;
     show::refusal(out, refusal_in(link1::track_text(number, buffer)))?;
-    show::plain(out, buffer)
-}
-
-// The part `and` behind `by`, which is part 2, and the part `of` behind that one.
-fn and_of(line: &[u8]) -> Option<(usize, usize)> {
-    if !parts::says(line, 2, b"by") {
-        return None;
-    }
-    let and = parts::find(line, 3, b"and")?;
-    let of = parts::find(line, and.wrapping_add(1), b"of")?;
-    Some((and, of))
+    Ok(show::plain(out, buffer)?)
 }
 
 // relay LENGTH by X .. and Y .. of IMAGE: a buffer of so many octets, each 5, is lent.
-fn relay<W: Write>(out: &mut W, line: &[u8], space: &mut [u8]) -> io::Result<()> {
-    let Some((and, of)) = and_of(line) else {
-        return show::refuse(out);
-    };
+fn relay<W: Write>(out: &mut W, mut given: Parts, space: &mut [u8]) -> Answered {
     let mut xs = [0; 16];
     let mut ys = [0; 16];
-    let (Some(length), Some(xs), Some(ys), Some(image)) = (
-        numbers::up_to(line, 1, 256),
-        numbers::list(line, 3, and, &mut xs),
-        numbers::list(line, and.wrapping_add(1), of, &mut ys),
-        gather(line, of.wrapping_add(1), space),
-    ) else {
-        return show::refuse(out);
-    };
+    let length = given.up_to(256)?;
+    let xs = given.list(b"by", b"and", &mut xs)?;
+    let ys = given.list(b"and", b"of", &mut ys)?;
+    given.word(b"of")?;
+    let image = given.octets(space)?;
     let mut lent = [5u8; 256];
     let buffer = &mut lent[..length];
     show::refusal(out, refusal_in(link1::relay(image, xs, ys, buffer)))?;
-    show::octets(out, buffer)
+    Ok(show::octets(out, buffer)?)
 }
 
 // ---- numbers alone
 
 // altitude FEET
-fn altitude<W: Write>(out: &mut W, line: &[u8]) -> io::Result<()> {
-    let (2, Some(feet)) = (parts::count(line), numbers::at(line, 1, 0)) else {
-        return show::refuse(out);
-    };
-    tell_number(out, link1::altitude(Feet(feet)).map(|steps| steps.0))
+fn altitude<W: Write>(out: &mut W, mut given: Parts) -> Answered {
+    let feet = given.number()?;
+    given.end()?;
+    Ok(tell_number(out, link1::altitude(Feet(feet)).map(|steps| steps.0))?)
 }
 
 // kind_named LABEL
-fn kind_named<W: Write>(out: &mut W, line: &[u8]) -> io::Result<()> {
-    let (2, Some(label)) = (parts::count(line), numbers::at(line, 1, 0)) else {
-        return show::refuse(out);
-    };
+fn kind_named<W: Write>(out: &mut W, mut given: Parts) -> Answered {
+    let label = given.number()?;
+    given.end()?;
     let named = link1::kind_named(label);
     show::refusal(out, refusal_in(named))?;
     if let Ok(kind) = named {
@@ -132,36 +101,27 @@ fn kind_named<W: Write>(out: &mut W, line: &[u8]) -> io::Result<()> {
 }
 
 // refusal_of NUMBER
-fn refusal_of<W: Write>(out: &mut W, line: &[u8]) -> io::Result<()> {
-    let (2, Some(number)) = (parts::count(line), numbers::at(line, 1, 0)) else {
-        return show::refuse(out);
-    };
-    show::refusal(out, Refusal::of(number))
+fn refusal_of<W: Write>(out: &mut W, mut given: Parts) -> Answered {
+    let number = given.number()?;
+    given.end()?;
+    Ok(show::refusal(out, Refusal::of(number))?)
 }
 
 // refusal_at NUMBER PLACE
-fn refusal_at<W: Write>(out: &mut W, line: &[u8]) -> io::Result<()> {
-    let (3, Some(number), Some(place)) = (
-        parts::count(line),
-        numbers::at(line, 1, 0),
-        numbers::at(line, 2, 0),
-    ) else {
-        return show::refuse(out);
-    };
-    show::refusal(out, Refusal::at(number, place))
+fn refusal_at<W: Write>(out: &mut W, mut given: Parts) -> Answered {
+    let number = given.number()?;
+    let place = given.number()?;
+    given.end()?;
+    Ok(show::refusal(out, Refusal::at(number, place))?)
 }
 
 // refusal_inside NUMBER PLACE BIT
-fn refusal_inside<W: Write>(out: &mut W, line: &[u8]) -> io::Result<()> {
-    let (4, Some(number), Some(place), Some(bit)) = (
-        parts::count(line),
-        numbers::at(line, 1, 0),
-        numbers::at(line, 2, 0),
-        numbers::at(line, 3, 0),
-    ) else {
-        return show::refuse(out);
-    };
-    show::refusal(out, Refusal::inside(number, place, bit))
+fn refusal_inside<W: Write>(out: &mut W, mut given: Parts) -> Answered {
+    let number = given.number()?;
+    let place = given.number()?;
+    let bit = given.number()?;
+    given.end()?;
+    Ok(show::refusal(out, Refusal::inside(number, place, bit))?)
 }
 
 // The numbers that a caller may get back beside success, in the order of 01's table as 02 amends it.
@@ -182,10 +142,8 @@ const REFUSED: [u8; 13] = [
 ];
 
 // numbers: success, and those.
-fn tell_numbers<W: Write>(out: &mut W, line: &[u8]) -> io::Result<()> {
-    if parts::count(line) != 1 {
-        return show::refuse(out);
-    }
+fn tell_numbers<W: Write>(out: &mut W, given: Parts) -> Answered {
+    given.end()?;
     show::first_number(out, link1::SUCCESS)?;
     for number in REFUSED {
         show::number(out, number)?;
@@ -195,65 +153,54 @@ fn tell_numbers<W: Write>(out: &mut W, line: &[u8]) -> io::Result<()> {
 
 // ---- messages
 
-// Two messages, and the octets behind them.
-fn two_messages<'a>(line: &[u8], space: &'a mut [u8]) -> Option<(Message, Message, &'a mut [u8])> {
-    let first = message_words::take(line, 1)?;
-    let second = message_words::take(line, first.next)?;
-    let octets = gather(line, second.next, space)?;
-    Some((first.message, second.message, octets))
-}
-
 // close MESSAGE MESSAGE BUFFER
-fn close<W: Write>(out: &mut W, line: &[u8], space: &mut [u8]) -> io::Result<()> {
-    let Some((first, second, buffer)) = two_messages(line, space) else {
-        return show::refuse(out);
-    };
+fn close<W: Write>(out: &mut W, mut given: Parts, space: &mut [u8]) -> Answered {
+    let first = message_words::take(&mut given)?;
+    let second = message_words::take(&mut given)?;
+    let buffer = given.octets(space)?;
     show::refusal(out, refusal_in(link1::close(first, second, buffer)))?;
-    show::octets(out, buffer)
+    Ok(show::octets(out, buffer)?)
 }
 
 // kind_of MESSAGE
-fn kind_of<W: Write>(out: &mut W, line: &[u8]) -> io::Result<()> {
-    match message_words::take(line, 1) {
-        Some(said) if said.next == parts::count(line) => {
-            message_words::tell_kind(out, link1::kind_of(said.message))
-        }
-        _ => show::refuse(out),
-    }
+fn kind_of<W: Write>(out: &mut W, mut given: Parts) -> Answered {
+    let message = message_words::take(&mut given)?;
+    given.end()?;
+    Ok(message_words::tell_kind(out, link1::kind_of(message))?)
 }
 
 // label KIND
-fn label<W: Write>(out: &mut W, line: &[u8]) -> io::Result<()> {
-    let (2, Some(kind)) = (parts::count(line), message_words::take_kind(line, 1)) else {
-        return show::refuse(out);
-    };
-    show::first_number(out, link1::label(kind))
+fn label<W: Write>(out: &mut W, mut given: Parts) -> Answered {
+    let kind = message_words::take_kind(&mut given)?;
+    given.end()?;
+    Ok(show::first_number(out, link1::label(kind))?)
 }
 
 // The call that a line's first part names, and its answer.
-pub fn call<W: Write>(out: &mut W, line: &[u8], space: &mut [u8]) -> io::Result<()> {
-    match parts::part(line, 0).unwrap_or(&[]) {
-        b"verdict" => verdict(out, line, space),
-        b"open" => open(out, line, space),
-        b"hear" => line_calls::hear(out, line, space),
-        b"track_number" => track_number(out, line, space),
-        b"search" => search(out, line, space),
-        b"track_text" => track_text(out, line, space),
-        b"send" => line_calls::send(out, line, space),
-        b"resume" => line_calls::resume(out, line, space),
-        b"close" => close(out, line, space),
-        b"relay" => relay(out, line, space),
-        b"kind_of" => kind_of(out, line),
-        b"label" => label(out, line),
-        b"kind_named" => kind_named(out, line),
-        b"altitude" => altitude(out, line),
-        b"refusal_of" => refusal_of(out, line),
-        b"refusal_at" => refusal_at(out, line),
-        b"refusal_inside" => refusal_inside(out, line),
-        b"numbers" => tell_numbers(out, line),
-        b"hear_octets" => line_calls::hear_octets(out, line, space),
-        b"resume_octets" => line_calls::resume_octets(out, line, space),
-        b"wrong_levels" => line_calls::wrong_levels(out, line, space),
-        _ => show::refuse(out),
+pub fn call<W: Write>(out: &mut W, line: &[u8], space: &mut [u8]) -> Answered {
+    let mut given = Parts::of(line);
+    match given.part()? {
+        b"verdict" => verdict(out, given, space),
+        b"open" => open(out, given, space),
+        b"hear" => line_calls::hear(out, given, space),
+        b"track_number" => track_number(out, given, space),
+        b"search" => search(out, given, space),
+        b"track_text" => track_text(out, given, space),
+        b"send" => line_calls::send(out, given, space),
+        b"resume" => line_calls::resume(out, given, space),
+        b"close" => close(out, given, space),
+        b"relay" => relay(out, given, space),
+        b"kind_of" => kind_of(out, given),
+        b"label" => label(out, given),
+        b"kind_named" => kind_named(out, given),
+        b"altitude" => altitude(out, given),
+        b"refusal_of" => refusal_of(out, given),
+        b"refusal_at" => refusal_at(out, given),
+        b"refusal_inside" => refusal_inside(out, given),
+        b"numbers" => tell_numbers(out, given),
+        b"hear_octets" => line_calls::hear_octets(out, given, space),
+        b"resume_octets" => line_calls::resume_octets(out, given, space),
+        b"wrong_levels" => line_calls::wrong_levels(out, given, space),
+        _ => Err(Unanswered::NotUnderstood),
     }
 }

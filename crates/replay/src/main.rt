@@ -4,53 +4,85 @@
 
 mod calls;
 
-use parts::show;
+use parts::{Answered, Unanswered, show};
 use std::io;
 use std::io::{Read, Write};
 
-// How much of a line has come; none where it is longer than is taken.
-type Length = Option<usize>;
+// A line as it comes, and how many octets of it have come; none where it is longer than is taken.
+#[derive(Drop)]
+struct Line<'a> {
+    octets: &'a mut [u8],
+    length: Option<usize>,
+}
 
-// An empty line and a note are answered by themselves.
-fn answer_whole<W: Write>(out: &mut W, line: &[u8], space: &mut [u8]) -> io::Result<()> {
-    match line.first() {
-        None => Ok(()),
-        Some(b'#') => show::text(out, line),
-        Some(_) => calls::call(out, line, space),
+impl<'a> Line<'a> {
+    // Puts an octet behind those that have come.
+    fn put(&mut self, c: u8) -> Option<usize> {
+        let k = self.length?;
+        *self.octets.get_mut(k)? = c;
+        Some(k.wrapping_add(1))
+    }
+
+    fn take(&mut self, c: u8) {
+        self.length = self.put(c);
+    }
+
+    fn whole(&self) -> Option<&[u8]> {
+        self.octets.get(..self.length?)
     }
 }
 
-fn answer<W: Write>(out: &mut W, length: Length, line: &[u8], space: &mut [u8]) -> io::Result<()> {
-    match length.and_then(|length| line.get(..length)) {
-        Some(line) => answer_whole(out, line, space)?,
-        None => show::refuse(out)?,
-    }
-    show::text(out, b"\n")
+// The line that comes, and where and by which space it is answered.
+#[derive(Drop)]
+struct Answers<'a, W> {
+    out: &'a mut W,
+    line: Line<'a>,
+    space: &'a mut [u8],
 }
 
-fn take(length: Length, c: u8, line: &mut [u8]) -> Length {
-    let k = length?;
-    *line.get_mut(k)? = c;
-    Some(k.wrapping_add(1))
-}
-
-fn feed<W: Write>(
-    out: &mut W,
-    given: Length,
-    chunk: &[u8],
-    line: &mut [u8],
-    space: &mut [u8],
-) -> io::Result<Length> {
-    let mut length = given;
-    for c in chunk {
-        if *c == b'\n' {
-            answer(out, length, line, space)?;
-            length = Some(0);
-        } else {
-            length = take(length, *c, line);
+impl<'a, W: Write> Answers<'a, W> {
+    // An empty line and a note are answered by themselves.
+    fn tell(&mut self) -> Answered {
+        let Some(line) = self.line.whole() else {
+            return Err(Unanswered::NotUnderstood);
+        };
+        match line.first() {
+            None => Ok(()),
+            Some(b'#') => Ok(show::text(self.out, line)?),
+            Some(_) => calls::call(self.out, line, self.space),
         }
     }
-    Ok(length)
+
+    // Answers the line that has come, and begins the next.
+    fn answer(&mut self) -> io::Result<()> {
+        match self.tell() {
+            Ok(()) => (),
+            Err(Unanswered::NotUnderstood) => show::refuse(self.out)?,
+            Err(Unanswered::Unwritten(error)) => return Err(error),
+        }
+        self.line.length = Some(0);
+        show::text(self.out, b"\n")
+    }
+
+    // Takes what comes next of the input, and answers each line that it ends.
+    fn feed(&mut self, chunk: &[u8]) -> io::Result<()> {
+        for c in chunk {
+            if *c == b'\n' {
+                self.answer()?;
+            } else {
+                self.line.take(*c);
+            }
+        }
+        Ok(())
+    }
+
+    // A last line that no line feed ends is answered too.
+    fn close(&mut self) -> io::Result<()> {
+        match self.line.length {
+            Some(0) => Ok(()),
+            _ => self.answer(),
+        }
+    }
 }
 
 // What comes next: nothing at the end, or where the input cannot be read, which is told.
@@ -64,30 +96,19 @@ fn read_some<'a, R: Read>(rt: &impl Eprint, from: &mut R, chunk: &'a mut [u8]) -
     }
 }
 
-// A last line that no line feed ends is answered too.
-fn close<W: Write>(out: &mut W, length: Length, line: &[u8], space: &mut [u8]) -> io::Result<()> {
-    match length {
-        Some(0) => Ok(()),
-        _ => answer(out, length, line, space),
-    }
-}
-
 // Reads until the input ends. That the loop ends for any input is shown by counting the reads, more than a file of calls can need.
 fn run<R: Read, W: Write>(
     rt: &impl Eprint,
     from: &mut R,
-    out: &mut W,
-    line: &mut [u8],
-    space: &mut [u8],
+    answers: &mut Answers<W>,
 ) -> io::Result<()> {
-    let mut length = Some(0);
     for _ in 0..u64::MAX {
         let mut chunk = [0u8; 4096];
         let some = read_some(rt, from, &mut chunk);
         if some.is_empty() {
-            return close(out, length, line, space);
+            return answers.close();
         }
-        length = feed(out, length, some, line, space)?;
+        answers.feed(some)?;
     }
     Ok(())
 }
@@ -95,11 +116,13 @@ fn run<R: Read, W: Write>(
 fn main(rt: HostRuntime) -> io::Result<()> {
     let mut line = [0u8; 8192];
     let mut space = [0u8; 65664];
-    run(
-        &rt,
-        &mut rt.stdin(),
-        &mut rt.stdout(),
-        &mut line,
-        &mut space,
-    )
+    let mut answers = Answers {
+        out: &mut rt.stdout(),
+        line: Line {
+            octets: &mut line,
+            length: Some(0),
+        },
+        space: &mut space,
+    };
+    run(&rt, &mut rt.stdin(), &mut answers)
 }

@@ -1,5 +1,5 @@
 -- `frame::Frame::column` meets its contract. The loop's invariant: the number holds the bits passed. Assumes nothing.
-use mathlib.Core.Path.{sym, ap, ◌∙◌}
+use mathlib.Core.Path.{sym}
 use Prim.Native.Nat.{◌+◌, ◌*◌}
 use borrow.Author.Rules.{rules}
 use Rattle.frame.specs.Frame.{frame_at}
@@ -15,5 +15,4 @@ loop-g-preserved c =
     let a = c.args in
     let s = a.self.octets.now in
     num_turn (λ h. frame_at s a.self.position (8 * h + 9 + a.j)) 32 c.loop-g.g _ c.from-in-loop-g.result (search rules) (λ h. bit_lt s _)
-    c.loop-g.invariant
-    (c.from-in-loop-g.ensures ∙ c.bit.ensures ∙ ap (λ k. frame_at s a.self.position (8 * c.loop-g.g + 9 + k)) c.from.ensures)
+    c.loop-g.invariant (search rules)
