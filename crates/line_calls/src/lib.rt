@@ -16,7 +16,10 @@ use std::io::Write;
 const NONE: [u8; 16] = [0; 16];
 
 // A receiver that is fed octets, each a level or eight bits.
-trait Fed: Copy {
+pub trait Fed: Copy {
+    // As after an idle line.
+    fn begin() -> Self;
+
     // Takes octet i of the run, from 1, tells the answer if it says anything, and gives the receiver to go on with.
     fn tell_step<W: Write>(self, out: &mut W, i: usize, octet: u8) -> io::Result<Self>;
 
@@ -24,6 +27,10 @@ trait Fed: Copy {
 }
 
 impl Fed for Receiver {
+    fn begin() -> Receiver {
+        Receiver::fresh()
+    }
+
     // at I N P B F OCTETS: the level's number, the refusal, whether there is a frame, and the octets.
     fn tell_step<W: Write>(self, out: &mut W, i: usize, level: u8) -> io::Result<Receiver> {
         let heard = self.step(level);
@@ -43,6 +50,10 @@ impl Fed for Receiver {
 }
 
 impl Fed for OctetReceiver {
+    fn begin() -> OctetReceiver {
+        OctetReceiver::fresh()
+    }
+
     // at I F J OCTETS: the octet's number, whether there is a frame, the bit at which it ended, and its octets.
     fn tell_step<W: Write>(self, out: &mut W, i: usize, octet: u8) -> io::Result<OctetReceiver> {
         let heard = self.step(octet);
@@ -75,16 +86,10 @@ fn feed<W: Write, R: Fed>(out: &mut W, given: R, run: &[u8]) -> io::Result<()> {
     feed_all(out, given, run)?.tell_state(out)
 }
 
-// hear LEVELS
-pub fn hear<W: Write>(out: &mut W, given: Parts, space: &mut [u8]) -> Answered {
-    let levels = given.octets(space)?;
-    Ok(feed(out, Receiver::fresh(), levels)?)
-}
-
-// hear_octets OCTETS
-pub fn hear_octets<W: Write>(out: &mut W, given: Parts, space: &mut [u8]) -> Answered {
+// hear LEVELS, hear_octets OCTETS
+pub fn hear<W: Write, R: Fed>(out: &mut W, given: Parts, space: &mut [u8]) -> Answered {
     let run = given.octets(space)?;
-    Ok(feed(out, OctetReceiver::fresh(), run)?)
+    Ok(feed(out, R::begin(), run)?)
 }
 
 // The window that the first sixteen octets are, and the octets behind.

@@ -9,7 +9,7 @@ use kind::Kind;
 use units::{AltSteps, LinkSteps};
 
 // S.3, the IFF/SIF message: a mode is absent, or present with its code.
-#[derive(Clone, Copy)]
+#[derive(Clone, Copy, Default)]
 pub struct Iff {
     pub mode3a: Option<u16>,
     pub request: u8,
@@ -20,7 +20,7 @@ pub struct Iff {
 }
 
 // S.4, S.4+, S.8 and S.8+, the basic track data messages.
-#[derive(Clone, Copy)]
+#[derive(Clone, Copy, Default)]
 pub struct Track {
     pub number: u16,
     pub quality: u8,
@@ -29,7 +29,7 @@ pub struct Track {
 }
 
 // S.5, the amplifying track data message. Velocities are in 1/128 data mile a second; the special-use fields are named by their lowest bit.
-#[derive(Clone, Copy)]
+#[derive(Clone, Copy, Default)]
 pub struct Amplifying {
     pub altitude: AltSteps,
     pub strength: u8,
@@ -45,7 +45,7 @@ pub struct Amplifying {
 }
 
 // S.6, the strobe data message. The azimuth is in 1/4096 of a turn, the age in seconds.
-#[derive(Clone, Copy)]
+#[derive(Clone, Copy, Default)]
 pub struct Strobe {
     pub acquisition: bool,
     pub width: u8,
@@ -60,7 +60,7 @@ pub struct Strobe {
 }
 
 // S.9, the area corner point message: an area of the site and a corner of the area, each counted from 0.
-#[derive(Clone, Copy)]
+#[derive(Clone, Copy, Default)]
 pub struct Corner {
     pub area: u8,
     pub site: u8,

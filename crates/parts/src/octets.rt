@@ -1,6 +1,7 @@
 // Octets that a line writes: `x00ba` in hexadecimal, `:01` a digit each, `=EG123` as they are; `*14` has the last stand fourteen times.
 
-ghost use Rattle.std.specs.Prelude.{◌<◌, IfSome};
+ghost use Rattle.std.specs.Prelude.{◌≡◌, ◌<◌, [], IfOk, IfSome, length};
+ghost use Rattle.parts.specs.Parts.{parts_left};
 
 use crate::{NotUnderstood, Parts, numbers};
 
@@ -89,7 +90,9 @@ impl<'a> Gathered<'a> {
 }
 
 // Puts the octets of each part into the space, and answers them.
-fn gather<'s>(parts: Parts, space: &'s mut [u8]) -> Option<&'s mut [u8]> {
+fn gather<'s>(parts: Parts, space: &'s mut [u8]) -> Option<&'s mut [u8]>
+    ensures { parts_left parts.entry ≡ [] → IfSome result (λ octets. length octets.now ≡ 0) }
+{
     let mut gathered = Gathered { space, count: 0 };
     for part in parts {
         gathered.put_part(part)?;
@@ -100,7 +103,9 @@ fn gather<'s>(parts: Parts, space: &'s mut [u8]) -> Option<&'s mut [u8]> {
 
 impl<'a> Parts<'a> {
     // The octets of all parts that are left, put into the space.
-    pub fn octets<'s>(self, space: &'s mut [u8]) -> Result<&'s mut [u8], NotUnderstood> {
+    pub fn octets<'s>(self, space: &'s mut [u8]) -> Result<&'s mut [u8], NotUnderstood>
+        ensures { parts_left self.entry ≡ [] → IfOk result (λ octets. length octets.now ≡ 0) }
+    {
         gather(self, space).ok_or(NotUnderstood)
     }
 }

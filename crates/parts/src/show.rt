@@ -19,14 +19,6 @@ pub fn first_number<W: Write, N: Display + Drop>(out: &mut W, n: N) -> io::Resul
     write!(out, "{n}")
 }
 
-// A space and a field's number, or that the field is absent.
-pub fn field<W: Write>(out: &mut W, n: Option<i64>) -> io::Result<()> {
-    match n {
-        Some(n) => number(out, n),
-        None => text(out, b" absent"),
-    }
-}
-
 // A refusal's number, place and bit, with no space before them.
 pub fn refusal<W: Write>(out: &mut W, r: Refusal) -> io::Result<()> {
     write!(out, "{r}")

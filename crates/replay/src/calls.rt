@@ -1,7 +1,7 @@
 // The calls of the public list; those of the receivers and the sender stand in `line_calls`. Each takes its arguments from what is left of
 // a line, all of them before it tells anything, and tells its whole answer.
 
-use link1::{Feet, Refusal, refusal_in};
+use link1::{Feet, OctetReceiver, Receiver, Refusal, refusal_in};
 use parts::{Answered, Parts, Unanswered, show};
 use std::fmt::Display;
 use std::io;
@@ -182,7 +182,7 @@ pub fn call<W: Write>(out: &mut W, line: &[u8], space: &mut [u8]) -> Answered {
     match given.part()? {
         b"verdict" => verdict(out, given, space),
         b"open" => open(out, given, space),
-        b"hear" => line_calls::hear(out, given, space),
+        b"hear" => line_calls::hear::<W, Receiver>(out, given, space),
         b"track_number" => track_number(out, given, space),
         b"search" => search(out, given, space),
         b"track_text" => track_text(out, given, space),
@@ -198,7 +198,7 @@ pub fn call<W: Write>(out: &mut W, line: &[u8], space: &mut [u8]) -> Answered {
         b"refusal_at" => refusal_at(out, given),
         b"refusal_inside" => refusal_inside(out, given),
         b"numbers" => tell_numbers(out, given),
-        b"hear_octets" => line_calls::hear_octets(out, given, space),
+        b"hear_octets" => line_calls::hear::<W, OctetReceiver>(out, given, space),
         b"resume_octets" => line_calls::resume_octets(out, given, space),
         b"wrong_levels" => line_calls::wrong_levels(out, given, space),
         _ => Err(Unanswered::NotUnderstood),

@@ -19,11 +19,11 @@ use std::ops::Add;
 pub struct Feet(pub i32);
 
 // Link steps of 1/8 data mile, 750 feet.
-#[derive(Clone, Copy)]
+#[derive(Clone, Copy, Default)]
 pub struct LinkSteps(pub i16);
 
 // Altitude steps of 375 feet.
-#[derive(Clone, Copy)]
+#[derive(Clone, Copy, Default)]
 pub struct AltSteps(pub u16);
 
 fn is_offset(x: Feet) -> bool
