@@ -15,7 +15,7 @@ use refusal::Refusal;
 #[derive(Clone, Copy)]
 pub struct Frame<'a> {
     pub octets: &'a [u8],
-    pub position: u32,
+    pub position: usize,
     ghost whole: { LiesWhole octets.now position },
 }
 
@@ -25,7 +25,7 @@ impl<'a> Frame<'a> {
         requires { (1 ≤ n) × (n ≤ 128) }
         ensures { result ≡ frame_at self.entry.octets.now self.entry.position n }
     {
-        bits::bit(self.octets, self.position as usize + n)
+        bits::bit(self.octets, self.position + n)
     }
 
     // The start group: eight zeros.
@@ -42,14 +42,16 @@ impl<'a> Frame<'a> {
         (0..15).all(|g| self.bit(8 * g + 9) == 1) && self.bit(128) == 1
     }
 
-    // Bit j of the fourteen data groups and check bit j, gathered as a number of fifteen bits.
-    pub fn column(self, j: u8) -> u32
+    // Bit j of the fourteen data groups and check bit j, gathered as a number of fifteen bits. Where it is called j is known, so it is
+    // inlined.
+    #[inline(always)]
+    pub fn column(self, j: usize) -> u32
         requires { (1 ≤ j) × (j ≤ 6) }
         ensures { result ≡ num_of (λ g. frame_at self.entry.octets.now self.entry.position (8 * g + 9 + j)) 15 }
     {
         let mut gathered: u32 = 0;
         for g in 0..15 {
-            gathered |= u32::from(self.bit(8 * g + 9 + usize::from(j))) << g;
+            gathered |= u32::from(self.bit(8 * g + 9 + j)) << g;
         }
         gathered
     }

@@ -51,7 +51,7 @@ fn is_frame(capture: &[u8], q: usize) -> bool
     }
     let frame = Frame {
         octets: capture,
-        position: q as u32,
+        position: q,
     };
     frame.verdict().is_ok()
 }

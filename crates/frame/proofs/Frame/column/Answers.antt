@@ -14,5 +14,5 @@ pub loop-g-preserved : goal.loop-g-preserved
 loop-g-preserved c =
     let a = c.args in
     let s = a.self.octets.now in
-    num_turn (λ h. frame_at s a.self.position (8 * h + 9 + a.j)) 32 c.loop-g.g _ c.from-in-loop-g.result (search rules) (λ h. bit_lt s _)
+    num_turn (λ h. frame_at s a.self.position (8 * h + 9 + a.j)) 32 c.loop-g.g _ c.from.result (search rules) (λ h. bit_lt s _)
     c.loop-g.invariant (search rules)
