@@ -2,4 +2,3 @@ pub mod TestLaws
 pub mod NumberLaws
 pub mod OctetLaws
 pub mod TwosLaws
-mod SignedLaws

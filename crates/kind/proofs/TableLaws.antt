@@ -2,27 +2,17 @@
 use mathlib.Core.Path.{◌≡◌, refl, sym, ap, ◌∙◌}
 use mathlib.Core.Bool.{Bool, true}
 use mathlib.Core.List.{List, [], ◌∷◌, map}
-use Prim.Native.Nat.{ℕ, suc, ◌+◌, ◌<◌}
+use Prim.Native.Nat.{ℕ, ◌+◌, ◌<◌}
 use borrow.Author.Tests.{ltb-true, eqb-true}
 use lib.Dec.{T, leb, ltb, eqb}
-use lib.ListN.{length, get_or}
+use lib.ListN.{get_or}
 use Rattle.bits.specs.Tests.{both}
-use Rattle.layout.specs.Layout.{Field, Values}
-use Rattle.layout.specs.Rules.{slots_of, raw_of, total}
+use Rattle.layout.specs.Rules.{slots_of, total}
 use Rattle.kind.specs.Layouts.{all_kinds, number_of, label_of, Placed, bits_of, layout_of}
 use Rattle.kind.specs.declared.Kind.{Kind}
 use Rattle.kind.specs.declared.Kind.TheVariants.{Blank, S0, S3, S4, S4Plus, S5, S6, S8, S8Plus, S9}
 use Rattle.bits.proofs.TestLaws.{both_true, to_t}
 use Rattle.layout.proofs.LayoutLaws.{are_sound}
-
--- there is a slot for each field, and a number for each value
-pub length_slots : (fs : List Field) → length (slots_of fs) ≡ length fs
-length_slots [] = refl
-length_slots (f ∷ fs) = ap suc (length_slots fs)
-
-pub length_raw : (fs : List Field) (vs : Values fs) → length (raw_of fs vs) ≡ length fs
-length_raw [] vs = refl
-length_raw (f ∷ fs) vs = ap suc (length_raw fs vs.1)
 
 -- ---- a table with a row for each kind, by the kind's number
 

@@ -2,13 +2,13 @@
 use mathlib.Core.Path.{◌≡◌, refl, ap, ap₂, ◌∙◌}
 use mathlib.Core.Bool.{Bool, true, false, not}
 use mathlib.Core.List.{List, [], ◌∷◌}
-use Prim.Native.Nat.{ℕ, ◌+◌, ◌*◌, ◌/◌, ◌^◌, ◌≤◌, ◌<◌}
+use Prim.Native.Nat.{ℕ, ◌+◌, ◌*◌, ◌^◌, ◌≤◌, ◌<◌}
 use native.Mathlib.Nat.{zero-add, mod-lt, lt_of_lt_of_le}
 use native.Mathlib.Numerals.{add-one}
 use native.Mathlib.Omega.{arith}
 use borrow.Author.Tests.{eqb-false, ltb-true}
 use lib.Dec.{T, eqb, ltb, lit<, leb→le}
-use lib.ListN.{length, drop, get_or, drop_of_length-le}
+use lib.ListN.{length, drop, get_or}
 use lib.Pow.{pow_pos}
 use lib.Seq.{drop-cons}
 use Rattle.std.specs.Prelude.{Result, Ok, Err}
@@ -106,29 +106,17 @@ no_slot = record { 0 = 0; 1 = R.Free }
 abbrev pub slot_at : List Slot → ℕ → Slot
 slot_at ss i = get_or ss i no_slot
 
-total_step : (ss : List Slot) (i : ℕ) → i < length ss → total (drop i ss) ≡ (slot_at ss i).0 + total (drop (i + 1) ss)
-total_step ss i h = rw (add-one i, drop-cons ss i no_slot h)
-
 -- where the loop over a word's fields stands: field i, at weight 2 ^ at; t is the answer
 pub record Ruling (t : Checked) (word : ℕ) (ss : List Slot) (at i : ℕ) : Type 0 where
   pub room : at + total (drop i ss) < 64
   pub rest : t ≡ ruled at (drop i ss) word
 
 module _ {t : Checked} {word : ℕ} {ss : List Slot} {at i : ℕ} (s : Ruling t word ss at i) (l : i < length ss) where
-  pub ruling_room : at + (slot_at ss i).0 < 64
-  ruling_room = omega (arith, s.room, total_step ss i l)
-
   ruling_step : t ≡ or_else (rule_trouble at (slot_at ss i).1 (field_of word at (slot_at ss i).0)) (ruled (at + (slot_at ss i).0) (drop (i + 1) ss) word)
   ruling_step = s.rest ∙ rw (add-one i, drop-cons ss i no_slot l)
 
-  pub ruling_more : rule_trouble at (slot_at ss i).1 (field_of word at (slot_at ss i).0) ≡ nothing → Ruling t word ss (at + (slot_at ss i).0) (i + 1)
-  ruling_more e = record { room = omega (arith, s.room, total_step ss i l); rest = ruling_step ∙ rw e }
-
   pub ruling_bad : {x : Trouble} → rule_trouble at (slot_at ss i).1 (field_of word at (slot_at ss i).0) ≡ Err x → t ≡ Err x
   ruling_bad e = ruling_step ∙ rw e
-
-pub ruling_done : {t : Checked} {word : ℕ} {ss : List Slot} {at i : ℕ} → Ruling t word ss at i → length ss ≤ i → t ≡ pick (eqb (word / 2 ^ at) 0) nothing (wrong Spare (at + 1))
-ruling_done {ss = ss} {i = i} s h = s.rest ∙ rw (drop_of_length-le ss h)
 
 -- where the loop that packs stands, with these slots and numbers to come; p is the answer
 pub record Packing (p : Result ℕ Trouble) (word : ℕ) (ss : List Slot) (ns : List ℕ) (at : ℕ) : Type 0 where

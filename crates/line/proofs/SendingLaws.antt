@@ -1,5 +1,5 @@
 -- What sending answers, and the loop that writes levels. Assumes nothing.
-use mathlib.Core.Path.{◌≡◌, refl, sym, ap, ◌∙◌}
+use mathlib.Core.Path.{◌≡◌, sym, ap, ◌∙◌}
 use mathlib.Core.List.{List, [], ◌∷◌, ◌++◌}
 use Prim.Native.Nat.{ℕ, ◌+◌, ◌≤◌, ◌<◌}
 use native.Mathlib.Numerals.{add-one}
@@ -62,9 +62,6 @@ pub record Sending (bits : List ℕ) (previous : ℕ) (levels : List ℕ) (level
   pub put : take i levels ≡ levels_after previous (take i bits)
   pub now_at : level ≡ last_level previous (levels_after previous (take i bits))
   pub fits : level ≤ 1
-
-pub sending_start : (bits : List ℕ) (previous : ℕ) (levels : List ℕ) → previous ≤ 1 → length levels ≡ 128 → Sending bits previous levels previous 0
-sending_start bits previous levels p h = record { small = omega arith; long = h; put = refl; now_at = refl; fits = p }
 
 pub sending_more : (bits : List ℕ) (previous : ℕ) (levels : List ℕ) (level i v : ℕ) → Sending bits previous levels level i → i < 128 → length bits ≡ 128
     → v ≡ next level (get_or bits i 0) → v ≤ 1 → Sending bits previous (set levels i v) v (i + 1)

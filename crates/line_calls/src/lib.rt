@@ -13,7 +13,7 @@ use std::io::Write;
 // ---- the receivers
 
 // The octets where no frame is handed over.
-const NONE: [u8; 16] = [0; 16];
+const NO_OCTETS: [u8; 16] = [0; 16];
 
 // A receiver that is fed octets, each a level or eight bits.
 pub trait Fed: Copy {
@@ -34,7 +34,10 @@ impl Fed for Receiver {
     // at I N P B F OCTETS: the level's number, the refusal, whether there is a frame, and the octets.
     fn tell_step<W: Write>(self, out: &mut W, i: usize, level: u8) -> io::Result<Receiver> {
         let heard = self.step(level);
-        if heard.refusal != Refusal::of(refusal::SUCCESS) || heard.frame || heard.image != NONE {
+        if heard.refusal != Refusal::of(refusal::SUCCESS)
+            || heard.frame
+            || heard.image != NO_OCTETS
+        {
             write!(out, "at {i} {} {}", heard.refusal, u8::from(heard.frame))?;
             show::octets(out, &heard.image)?;
             show::text(out, b" ")?;
@@ -57,7 +60,7 @@ impl Fed for OctetReceiver {
     // at I F J OCTETS: the octet's number, whether there is a frame, the bit at which it ended, and its octets.
     fn tell_step<W: Write>(self, out: &mut W, i: usize, octet: u8) -> io::Result<OctetReceiver> {
         let heard = self.step(octet);
-        if heard.frame || heard.bit != 0 || heard.image != NONE {
+        if heard.frame || heard.bit != 0 || heard.image != NO_OCTETS {
             write!(out, "at {i} {} {}", u8::from(heard.frame), heard.bit)?;
             show::octets(out, &heard.image)?;
             show::text(out, b" ")?;
@@ -131,7 +134,7 @@ pub fn send<W: Write>(out: &mut W, mut given: Parts, space: &mut [u8]) -> Answer
     let image = given.octets(space)?;
     let mut buffer = [5u8; 256];
     let levels = &mut buffer[..length];
-    show::refusal(out, refusal_in(sending::send(image, previous, levels)))?;
+    show::first(out, refusal_in(sending::send(image, previous, levels)))?;
     Ok(show::levels(out, levels)?)
 }
 
@@ -139,7 +142,7 @@ pub fn send<W: Write>(out: &mut W, mut given: Parts, space: &mut [u8]) -> Answer
 fn tell_verdict<W: Write>(out: &mut W, levels: &[u8]) -> io::Result<()> {
     let receiver = feed_all(out, Receiver::fresh(), levels)?;
     let verdict = frame::verdict(&line::image(receiver.window));
-    show::first_number(out, refusal_in(verdict).number)
+    show::first(out, refusal_in(verdict).number)
 }
 
 // That verdict with each level changed in turn.
@@ -158,7 +161,7 @@ pub fn wrong_levels<W: Write>(out: &mut W, mut given: Parts, space: &mut [u8]) -
     let image = given.octets(space)?;
     let mut levels = [previous; 129];
     let sent = sending::send(image, previous, &mut levels[1..]);
-    show::refusal(out, refusal_in(sent))?;
+    show::first(out, refusal_in(sent))?;
     if sent.is_ok() {
         show::text(out, b" ")?;
         tell_each(out, levels)?;

@@ -2,7 +2,8 @@
 
 #![tactic(auto)]
 
-ghost use Rattle.std.specs.Prelude.{◌≡◌};
+ghost use Rattle.std.specs.Prelude.{◌≡◌, OnOk};
+ghost use Rattle.parts.specs.Parts.{parts_left, behind};
 
 use kind::{KINDS, Kind};
 use message::{Amplifying, Corner, Iff, Message, Strobe, Track};
@@ -107,7 +108,8 @@ fn corner<F: Fields>(fields: &mut F, m: &mut Corner) -> Result<(), F::Error> {
     fields.number("y", &mut m.y.0)
 }
 
-fn each<F: Fields>(fields: &mut F, message: &mut Message) -> Result<(), F::Error> {
+// Goes over the fields of a message.
+fn fields_of<F: Fields>(fields: &mut F, message: &mut Message) -> Result<(), F::Error> {
     match message {
         Message::Blank | Message::S0 => Ok(()),
         Message::S3(m) => iff(fields, m),
@@ -122,6 +124,7 @@ fn each<F: Fields>(fields: &mut F, message: &mut Message) -> Result<(), F::Error
 
 // ---- taken from a line's parts
 
+// Behind a field's word stands what the methods of `Parts` take.
 impl<'a> Fields for Parts<'a> {
     type Error = NotUnderstood;
 
@@ -168,7 +171,9 @@ fn empty(kind: Kind) -> Message {
 }
 
 // Takes a kind's word.
-pub fn take_kind(parts: &mut Parts) -> Result<Kind, NotUnderstood> {
+pub fn take_kind(parts: &mut Parts) -> Result<Kind, NotUnderstood>
+    ensures { OnOk result (parts_left parts.new ≡ behind (parts_left parts.old)) }
+{
     let part = parts.part()?;
     let Word(kind, _) = WORDS
         .iter()
@@ -180,7 +185,7 @@ pub fn take_kind(parts: &mut Parts) -> Result<Kind, NotUnderstood> {
 // Takes the parts that a message is.
 pub fn take(parts: &mut Parts) -> Result<Message, NotUnderstood> {
     let mut message = empty(take_kind(parts)?);
-    each(parts, &mut message)?;
+    fields_of(parts, &mut message)?;
     Ok(message)
 }
 
@@ -214,12 +219,14 @@ impl<'a, W: Write> Fields for Told<'a, W> {
     }
 }
 
+// A kind's word, and the fields behind it.
 pub fn tell<W: Write>(out: &mut W, m: Message) -> io::Result<()> {
     tell_kind(out, message::kind_of(m))?;
-    let mut message = m;
-    each(&mut Told { out }, &mut message)
+    let mut same = m;
+    fields_of(&mut Told { out }, &mut same)
 }
 
+// A kind's word.
 pub fn tell_kind<W: Write>(out: &mut W, kind: Kind) -> io::Result<()> {
     let Word(_, word) = word_of(kind);
     show::text(out, word.as_bytes())

@@ -87,7 +87,7 @@ impl<'a> Parts<'a> {
         place.ok_or(NotUnderstood)
     }
 
-    // Takes a word, and the numbers between it and another word, which comes next; they are put into the space.
+    // Takes a word, and the numbers between it and another word, which is left; they are put into the space.
     pub fn list<'s>(
         &mut self,
         first: &[u8],

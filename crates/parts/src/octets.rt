@@ -5,7 +5,7 @@ ghost use Rattle.parts.specs.Parts.{parts_left};
 
 use crate::{NotUnderstood, Parts, numbers};
 
-// The most times, and the most octets.
+// The most times.
 const MOST: i64 = 65664;
 
 // The value of a hexadecimal digit.
@@ -59,7 +59,7 @@ impl<'a> Gathered<'a> {
         Some(())
     }
 
-    // A number of times for the last of the octets that a part has put, from an index on; it stands once already.
+    // The last octet of a part again, so that it stands so many times; the part's octets begin at `from`.
     fn repeat(&mut self, times: &[u8], from: usize) -> Option<()> {
         let to = self.count;
         let last = *self.space.get(from..to)?.last()?;

@@ -1,6 +1,5 @@
 // What is written of an answer, piece by piece.
 
-use refusal::Refusal;
 use std::fmt::Display;
 use std::io;
 use std::io::Write;
@@ -14,14 +13,9 @@ pub fn number<W: Write, N: Display + Drop>(out: &mut W, n: N) -> io::Result<()> 
     write!(out, " {n}")
 }
 
-// A number with no space before it.
-pub fn first_number<W: Write, N: Display + Drop>(out: &mut W, n: N) -> io::Result<()> {
-    write!(out, "{n}")
-}
-
-// A refusal's number, place and bit, with no space before them.
-pub fn refusal<W: Write>(out: &mut W, r: Refusal) -> io::Result<()> {
-    write!(out, "{r}")
+// What an answer begins with, with no space before it.
+pub fn first<W: Write, T: Display + Drop>(out: &mut W, t: T) -> io::Result<()> {
+    write!(out, "{t}")
 }
 
 // Octets in hexadecimal, in so many digits each.

@@ -12,7 +12,7 @@ fn tell_number<W: Write, N: Display + Copy + Drop>(
     out: &mut W,
     answer: Result<N, Refusal>,
 ) -> io::Result<()> {
-    show::refusal(out, refusal_in(answer))?;
+    show::first(out, refusal_in(answer))?;
     match answer {
         Ok(n) => show::number(out, n),
         Err(_) => Ok(()),
@@ -24,13 +24,13 @@ fn tell_number<W: Write, N: Display + Copy + Drop>(
 // verdict IMAGE
 fn verdict<W: Write>(out: &mut W, given: Parts, space: &mut [u8]) -> Answered {
     let image = given.octets(space)?;
-    Ok(show::refusal(out, refusal_in(link1::verdict(image)))?)
+    Ok(show::first(out, refusal_in(link1::verdict(image)))?)
 }
 
 // open IMAGE
 fn open<W: Write>(out: &mut W, given: Parts, space: &mut [u8]) -> Answered {
     let opened = link1::open(given.octets(space)?);
-    show::refusal(out, refusal_in(opened))?;
+    show::first(out, refusal_in(opened))?;
     if let Ok((first, second)) = opened {
         show::text(out, b" ")?;
         message_words::tell(out, first)?;
@@ -59,7 +59,7 @@ fn search<W: Write>(out: &mut W, mut given: Parts, space: &mut [u8]) -> Answered
 fn track_text<W: Write>(out: &mut W, mut given: Parts, space: &mut [u8]) -> Answered {
     let number = given.number()?;
     let buffer = given.octets(space)?;
-    show::refusal(out, refusal_in(link1::track_text(number, buffer)))?;
+    show::first(out, refusal_in(link1::track_text(number, buffer)))?;
     Ok(show::plain(out, buffer)?)
 }
 
@@ -74,7 +74,7 @@ fn relay<W: Write>(out: &mut W, mut given: Parts, space: &mut [u8]) -> Answered 
     let image = given.octets(space)?;
     let mut lent = [5u8; 256];
     let buffer = &mut lent[..length];
-    show::refusal(out, refusal_in(link1::relay(image, xs, ys, buffer)))?;
+    show::first(out, refusal_in(link1::relay(image, xs, ys, buffer)))?;
     Ok(show::octets(out, buffer)?)
 }
 
@@ -92,7 +92,7 @@ fn kind_named<W: Write>(out: &mut W, mut given: Parts) -> Answered {
     let label = given.number()?;
     given.end()?;
     let named = link1::kind_named(label);
-    show::refusal(out, refusal_in(named))?;
+    show::first(out, refusal_in(named))?;
     if let Ok(kind) = named {
         show::text(out, b" ")?;
         message_words::tell_kind(out, kind)?;
@@ -104,7 +104,7 @@ fn kind_named<W: Write>(out: &mut W, mut given: Parts) -> Answered {
 fn refusal_of<W: Write>(out: &mut W, mut given: Parts) -> Answered {
     let number = given.number()?;
     given.end()?;
-    Ok(show::refusal(out, Refusal::of(number))?)
+    Ok(show::first(out, Refusal::of(number))?)
 }
 
 // refusal_at NUMBER PLACE
@@ -112,7 +112,7 @@ fn refusal_at<W: Write>(out: &mut W, mut given: Parts) -> Answered {
     let number = given.number()?;
     let place = given.number()?;
     given.end()?;
-    Ok(show::refusal(out, Refusal::at(number, place))?)
+    Ok(show::first(out, Refusal::at(number, place))?)
 }
 
 // refusal_inside NUMBER PLACE BIT
@@ -121,7 +121,7 @@ fn refusal_inside<W: Write>(out: &mut W, mut given: Parts) -> Answered {
     let place = given.number()?;
     let bit = given.number()?;
     given.end()?;
-    Ok(show::refusal(out, Refusal::inside(number, place, bit))?)
+    Ok(show::first(out, Refusal::inside(number, place, bit))?)
 }
 
 // The numbers that a caller may get back beside success, in the order of 01's table as 02 amends it.
@@ -144,7 +144,7 @@ const REFUSED: [u8; 13] = [
 // numbers: success, and those.
 fn tell_numbers<W: Write>(out: &mut W, given: Parts) -> Answered {
     given.end()?;
-    show::first_number(out, link1::SUCCESS)?;
+    show::first(out, link1::SUCCESS)?;
     for number in REFUSED {
         show::number(out, number)?;
     }
@@ -158,7 +158,7 @@ fn close<W: Write>(out: &mut W, mut given: Parts, space: &mut [u8]) -> Answered 
     let first = message_words::take(&mut given)?;
     let second = message_words::take(&mut given)?;
     let buffer = given.octets(space)?;
-    show::refusal(out, refusal_in(link1::close(first, second, buffer)))?;
+    show::first(out, refusal_in(link1::close(first, second, buffer)))?;
     Ok(show::octets(out, buffer)?)
 }
 
@@ -173,7 +173,7 @@ fn kind_of<W: Write>(out: &mut W, mut given: Parts) -> Answered {
 fn label<W: Write>(out: &mut W, mut given: Parts) -> Answered {
     let kind = message_words::take_kind(&mut given)?;
     given.end()?;
-    Ok(show::first_number(out, link1::label(kind))?)
+    Ok(show::first(out, link1::label(kind))?)
 }
 
 // The call that a line's first part names, and its answer.

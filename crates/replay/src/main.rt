@@ -85,13 +85,14 @@ impl<'a, W: Write> Answers<'a, W> {
     }
 }
 
-// What comes next: nothing at the end, or where the input cannot be read, which is told.
-fn read_some<'a, R: Read>(rt: &impl Eprint, from: &mut R, chunk: &'a mut [u8]) -> &'a [u8] {
+// What comes next of the input, if anything does; where it cannot be read, that is told.
+fn read_some<'a, R: Read>(rt: &impl Eprint, from: &mut R, chunk: &'a mut [u8]) -> Option<&'a [u8]> {
     match from.read(chunk) {
-        Ok(n) => &chunk[..n],
+        Ok(0) => None,
+        Ok(n) => Some(&chunk[..n]),
         Err(_) => {
             let _ = rt.eprintln("replay: the calls on standard input cannot be read");
-            &[]
+            None
         }
     }
 }
@@ -104,10 +105,9 @@ fn run<R: Read, W: Write>(
 ) -> io::Result<()> {
     for _ in 0..u64::MAX {
         let mut chunk = [0u8; 4096];
-        let some = read_some(rt, from, &mut chunk);
-        if some.is_empty() {
+        let Some(some) = read_some(rt, from, &mut chunk) else {
             return answers.close();
-        }
+        };
         answers.feed(some)?;
     }
     Ok(())
