@@ -1,5 +1,6 @@
 -- The parts of a line, one more than it has spaces.
-use Rattle.std.specs.Prelude.{Bool, ◌==◌, ℕ, List, [], Option, None, Some, drop}
+use Rattle.std.specs.Prelude.{Bool, true, false, ◌==◌, ◌≡◌, ℕ, ℤ, pos, List, [], ◌∷◌, Option, None, Some, Result, Ok, drop}
+use Rattle.std.specs.Fmt.{signed_decimal}
 use Rattle.std.specs.List.{slice_split, position_or_len}
 use Rattle.std.specs.Str.{bytes_eq}
 use Rattle.std.specs.Borrow.{Bor}
@@ -29,3 +30,24 @@ place_of word parts = position_or_len (λ part. bytes_eq part word) parts
 -- the parts behind the first
 abbrev pub behind : List (List ℕ) → List (List ℕ)
 behind parts = drop 1 parts
+
+-- a text is a number as it would be told, and t is what a type makes of the number
+pub record Says {T E : Type 0} (makes : ℤ → Result T E → Type 0) (text : List ℕ) (t : T) : Type 0 where
+  pub number : ℤ
+  pub told : text ≡ signed_decimal number
+  pub made : makes number (Ok t)
+
+-- a text is a word where there is no value, else it says the value
+abbrev pub SaysOr : {T E : Type 0} → List ℕ → (ℤ → Result T E → Type 0) → List ℕ → Option T → Type 0
+SaysOr word makes text None = text ≡ word
+SaysOr word makes text (Some t) = Says makes text t
+
+-- 0 or 1
+abbrev pub flag_of : Bool → ℤ
+flag_of false = pos 0
+flag_of true = pos 1
+
+-- the first of some parts is taken, P holds of it, and the others are left
+abbrev pub Takes : (List ℕ → Type 0) → List (List ℕ) → List (List ℕ) → Type 0
+Takes P [] left = ⊥
+Takes P (part ∷ parts) left = P part × (left ≡ parts)

@@ -1,8 +1,8 @@
 // Numbers of a line: decimal, 64 bits each.
 
 ghost use Rattle.std.specs.Fmt.{signed_decimal};
-ghost use Rattle.std.specs.Prelude.{◌≡◌, ◌≤◌, IfOk, IfSome, IsTrue, OnOk, length};
-ghost use Rattle.parts.specs.Parts.{parts_left, place_of, behind};
+ghost use Rattle.std.specs.Prelude.{◌≡◌, ◌≤◌, IfOk, IfSome, IsTrue, length, pos};
+ghost use Rattle.parts.specs.Parts.{Says, SaysOr, Takes, flag_of, parts_left, place_of, behind};
 
 use crate::{NotUnderstood, Parts};
 use itoa::Buffer;
@@ -27,6 +27,7 @@ pub fn of(text: &[u8]) -> Option<i64>
 fn read<T: TryFrom<i64>>(text: &[u8]) -> Result<T, NotUnderstood>
 where
     T::Error: Drop,
+    ensures { IfOk result (λ t. Says T.try_from_gives text.now t) }
 {
     let n = of(text).ok_or(NotUnderstood)?;
     T::try_from(n).ok().ok_or(NotUnderstood)
@@ -37,7 +38,7 @@ impl<'a> Parts<'a> {
     pub fn number<T: TryFrom<i64>>(&mut self) -> Result<T, NotUnderstood>
     where
         T::Error: Drop,
-        ensures { OnOk result (parts_left self.new ≡ behind (parts_left self.old)) }
+        ensures { IfOk result (λ t. Takes (λ part. Says T.try_from_gives part t) (parts_left self.old) (parts_left self.new)) }
     {
         read(self.part()?)
     }
@@ -46,7 +47,7 @@ impl<'a> Parts<'a> {
     pub fn number_or<T: TryFrom<i64>>(&mut self, word: &[u8]) -> Result<Option<T>, NotUnderstood>
     where
         T::Error: Drop,
-        ensures { OnOk result (parts_left self.new ≡ behind (parts_left self.old)) }
+        ensures { IfOk result (λ o. Takes (λ part. SaysOr word.now T.try_from_gives part o) (parts_left self.old) (parts_left self.new)) }
     {
         let part = self.part()?;
         if part == word {
@@ -57,7 +58,7 @@ impl<'a> Parts<'a> {
 
     // Takes a number that is 0 or 1.
     pub fn flag(&mut self) -> Result<bool, NotUnderstood>
-        ensures { OnOk result (parts_left self.new ≡ behind (parts_left self.old)) }
+        ensures { IfOk result (λ yes. Takes (λ part. part ≡ signed_decimal (flag_of yes)) (parts_left self.old) (parts_left self.new)) }
     {
         match self.number::<u8>()? {
             0 => Ok(false),
@@ -69,9 +70,9 @@ impl<'a> Parts<'a> {
     // Takes a number from 0 to the most that is taken.
     pub fn up_to(&mut self, most: usize) -> Result<usize, NotUnderstood>
         ensures most { IfOk result (λ n. n ≤ most) }
-        ensures passed { OnOk result (parts_left self.new ≡ behind (parts_left self.old)) }
+        ensures taken { IfOk result (λ n. Takes (λ part. part ≡ signed_decimal (pos n)) (parts_left self.old) (parts_left self.new)) }
     {
-        let n = self.number()?;
+        let n = self.number::<usize>()?;
         if n > most {
             return Err(NotUnderstood);
         }
