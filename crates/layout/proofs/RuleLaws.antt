@@ -138,7 +138,7 @@ module _ {p : Result ℕ Trouble} {word : ℕ} {ss rest-ss : List Slot} {ns rest
   packing_step : p ≡ packed_of word at (x ∷ rest-ss) (n ∷ rest-ns)
   packing_step = s.rest ∙ ap₂ (packed_of word at) es en
 
-  packing_room : at + x.0 + total rest-ss < 64
+  pub packing_room : at + x.0 + total rest-ss < 64
   packing_room = omega (arith, s.room, ap total es)
 
   packing_each : length rest-ss ≡ length rest-ns

@@ -3,6 +3,10 @@
 
 #![tactic(auto)]
 
+ghost use Rattle.std.specs.Prelude.{ℕ, ◌≡◌, IfOk};
+ghost use Rattle.line.specs.Machine.{fresh_of, heard_of};
+ghost use Rattle.octets.specs.Feeding.{fresh_octets, heard_octet};
+
 use line::{Receiver, Window};
 use octets::OctetReceiver;
 use parts::{Answered, NotUnderstood, Parts, show};
@@ -15,18 +19,35 @@ use std::io::Write;
 // The octets where no frame is handed over.
 const NO_OCTETS: [u8; 16] = [0; 16];
 
+// The sixteen octets of a window, in two pieces: each piece is a write of its own.
+fn tell_window<W: Write>(out: &mut W, window: Window) -> io::Result<()> {
+    write!(out, "{:016x}{:016x}", window.older, window.newer)
+}
+
 // A receiver that is fed octets, each a level or eight bits.
 pub trait Fed: Copy {
+    // The receiver with which a run begins.
+    ghost fresh: { Self };
+
+    // The receiver that goes on after an octet.
+    ghost fed: { Self → ℕ → Self };
+
     // As after an idle line.
-    fn begin() -> Self;
+    fn begin() -> Self
+        ensures { result ≡ fresh };
 
     // Takes octet i of the run, from 1, tells the answer if it says anything, and gives the receiver to go on with.
-    fn tell_step<W: Write>(self, out: &mut W, i: usize, octet: u8) -> io::Result<Self>;
+    fn tell_step<W: Write>(self, out: &mut W, i: usize, octet: u8) -> io::Result<Self>
+        ensures { IfOk result (λ next. next ≡ fed self octet) };
 
     fn tell_state<W: Write>(self, out: &mut W) -> io::Result<()>;
 }
 
 impl Fed for Receiver {
+    ghost fresh = { fresh_of };
+
+    ghost fed = { λ receiver level. (heard_of receiver level).receiver };
+
     fn begin() -> Receiver {
         Receiver::fresh()
     }
@@ -47,12 +68,16 @@ impl Fed for Receiver {
 
     // state STARTED LAST OCTETS
     fn tell_state<W: Write>(self, out: &mut W) -> io::Result<()> {
-        write!(out, "state {} {}", u8::from(self.started), self.last)?;
-        show::octets(out, &line::image(self.window))
+        write!(out, "state {} {} x", u8::from(self.started), self.last)?;
+        tell_window(out, self.window)
     }
 }
 
 impl Fed for OctetReceiver {
+    ghost fresh = { fresh_octets };
+
+    ghost fed = { λ receiver octet. (heard_octet receiver octet).receiver };
+
     fn begin() -> OctetReceiver {
         OctetReceiver::fresh()
     }
@@ -70,8 +95,8 @@ impl Fed for OctetReceiver {
 
     // state OCTETS
     fn tell_state<W: Write>(self, out: &mut W) -> io::Result<()> {
-        show::text(out, b"state")?;
-        show::octets(out, &line::image(self.window))
+        show::text(out, b"state x")?;
+        tell_window(out, self.window)
     }
 }
 

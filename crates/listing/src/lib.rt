@@ -52,8 +52,8 @@ pub fn run<R: Read, W: Write>(from: &mut R, to: &mut W) -> Result<(), Failure>
     ensures kept { result ≡ Err Unread → Keeps (W.contents to.old) (W.contents to.new) }
 {
     let mut space = [0u8; MOST + 1];
-    let count = text::read_all(from, &mut space)?;
     let mut out = [0u8; ROOM];
+    let count = text::read_all(from, &mut space)?;
     let k = list_log(&space[..count], &mut out);
     text::write(to, &out[..k])
 }

@@ -1,5 +1,8 @@
 // What is written of an answer, piece by piece.
 
+ghost use Rattle.std.specs.Prelude.{◌++◌, IfSome, OnOk, codes};
+ghost use Rattle.std.specs.Io.KnownBytes.{Appends};
+
 use std::fmt::Display;
 use std::io;
 use std::io::Write;
@@ -9,12 +12,17 @@ pub fn text<W: Write>(out: &mut W, t: &[u8]) -> io::Result<()> {
 }
 
 // A space and a number.
-pub fn number<W: Write, N: Display + Drop>(out: &mut W, n: N) -> io::Result<()> {
+pub fn number<W: Write, N: Display + Drop>(out: &mut W, n: N) -> io::Result<()>
+    ensures { OnOk result (IfSome (N.output n)
+        (λ digits. Appends (W.contents out.old) (W.contents out.new) (codes " " ++ digits))) }
+{
     write!(out, " {n}")
 }
 
 // What an answer begins with, with no space before it.
-pub fn first<W: Write, T: Display + Drop>(out: &mut W, t: T) -> io::Result<()> {
+pub fn first<W: Write, T: Display + Drop>(out: &mut W, t: T) -> io::Result<()>
+    ensures { OnOk result (IfSome (T.output t) (Appends (W.contents out.old) (W.contents out.new))) }
+{
     write!(out, "{t}")
 }
 

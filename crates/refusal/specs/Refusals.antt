@@ -1,6 +1,6 @@
 -- 01, 'Numbers a caller may get back', and 02, items 4 and 6: a name for each number, 8 and 11 being no longer given; a number with its
 -- place, and of what is wrong inside a message with the bit where it begins.
-use Rattle.std.specs.Prelude.{ℕ, Ok, Err}
+use Rattle.std.specs.Prelude.{ℕ, List, ◌++◌, Ok, Err, codes, decimal}
 use Rattle.layout.specs.declared.Cause.{Cause}
 use Rattle.layout.specs.declared.Cause.TheVariants.{Pattern, Spare, Unused, TooWide}
 use Rattle.layout.specs.Trouble.{Checked}
@@ -77,3 +77,7 @@ inside_at place cause bit = numbered_in (cause_number cause) place bit
 abbrev pub troubled : ℕ → Checked → Refusal
 troubled place (Ok u) = numbered success
 troubled place (Err t) = inside_at place t.cause t.bit
+
+-- a refusal as it displays itself: its three numbers in decimal digits, a space between two
+abbrev pub refusal_text : Refusal → List ℕ
+refusal_text r = decimal r.number ++ (codes " " ++ (decimal r.place ++ (codes " " ++ decimal r.bit)))

@@ -3,8 +3,8 @@
 
 #![tactic(auto)]
 
-ghost use Rattle.std.specs.Prelude.{◌≡◌};
-ghost use Rattle.refusal.specs.Refusals.{numbered, numbered_at, numbered_in, cause_number, inside_at};
+ghost use Rattle.std.specs.Prelude.{◌≡◌, Some};
+ghost use Rattle.refusal.specs.Refusals.{numbered, numbered_at, numbered_in, cause_number, inside_at, refusal_text};
 ghost use Rattle.refusal.specs.Checks as checks;
 
 use layout::{Cause, Trouble};
@@ -74,6 +74,8 @@ impl Refusal {
 
 // The three numbers, as an error prints.
 impl fmt::Display for Refusal {
+    ghost output = { λ r. Some (refusal_text r) };
+
     fn fmt<W: fmt::Write>(&self, f: &mut fmt::Formatter<W>) -> fmt::Result {
         write!(f, "{} {} {}", self.number, self.place, self.bit)
     }

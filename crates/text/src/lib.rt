@@ -2,9 +2,10 @@
 
 #![tactic(auto)]
 
-ghost use Rattle.std.specs.Prelude.{◌≡◌, ◌≢◌, ◌+◌, ◌*◌, ◌≤◌, ◌<◌, length, take, Err, IfOk, OnOk};
+ghost use Rattle.std.specs.Prelude.{◌≡◌, ◌≢◌, ◌+◌, ◌*◌, ◌≤◌, ◌<◌, length, take, Err, IfOk, OnOk, Some};
 ghost use Rattle.std.specs.Io.KnownBytes.{Appends, Consumes, IsAtEnd};
 ghost use Rattle.text.specs.Counts.{IsPrefixLen, count_of};
+ghost use Rattle.text.specs.Failures.{failure_text};
 ghost use Rattle.text.specs.Text.{dec_then, row};
 ghost use Rattle.text.specs.declared.Failure.TheVariants.{Unread};
 
@@ -90,6 +91,8 @@ pub enum Failure {
 }
 
 impl Display for Failure {
+    ghost output = { λ failure. Some (failure_text failure) };
+
     fn fmt<W: fmt::Write>(&self, f: &mut Formatter<W>) -> fmt::Result {
         match self {
             Failure::Unread => write!(f, "standard input cannot be read"),

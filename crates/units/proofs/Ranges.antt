@@ -22,11 +22,11 @@ use Rattle.units.proofs.Parts.{up, dn, le_is, le_true, lt_true, sfits, side}
 
 module _ (lo hi z : ℤ) where
   -- from the lower end on, the test of the upper end decides
-  within_from : lt_z z lo ≡ false → within lo hi z ≡ le_z z hi
+  pub within_from : lt_z z lo ≡ false → within lo hi z ≡ le_z z hi
   unfolding within
   within_from e = ap (λ (b : Bool). both b (le_z z hi)) (le_is lo z ∙ ap not e)
 
-  within_yes : lt_z z lo ≡ false → lt_z hi z ≡ false → within lo hi z ≡ true
+  pub within_yes : lt_z z lo ≡ false → lt_z hi z ≡ false → within lo hi z ≡ true
   within_yes e f = within_from e ∙ le_is z hi ∙ ap not f
 
   pub within_parts : within lo hi z ≡ true → (up lo + dn z ≤ up z + dn lo) × (up z + dn hi ≤ up hi + dn z)
