@@ -4,6 +4,7 @@
 
 ghost use Rattle.std.specs.Prelude.{◌≡◌, ◌∷◌, ◌↔◌, [], Some, IfOk, IsOk, OnOk};
 ghost use Rattle.parts.specs.Parts.{parts_of, parts_in, parts_left};
+ghost use Rattle.parts.specs.declared.Unanswered.TheVariants as why;
 
 use std::io;
 
@@ -26,12 +27,16 @@ pub enum Unanswered {
 pub type Answered = Result<(), Unanswered>;
 
 impl From<NotUnderstood> for Unanswered {
+    ghost from_gives = { λ _ unanswered. unanswered ≡ why.NotUnderstood };
+
     fn from(_: NotUnderstood) -> Unanswered {
         Unanswered::NotUnderstood
     }
 }
 
 impl From<io::Error> for Unanswered {
+    ghost from_gives = { λ error unanswered. unanswered ≡ why.Unwritten error };
+
     fn from(error: io::Error) -> Unanswered {
         Unanswered::Unwritten(error)
     }
